@@ -1,0 +1,5 @@
+pub mod Segments
+pub mod ChunkNames
+pub mod ChunksApart
+mod Sides
+mod RawText

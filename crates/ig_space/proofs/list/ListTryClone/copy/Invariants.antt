@@ -1,0 +1,6 @@
+-- So far the items are the first ones of the list.
+use Rattle.std.proofs.Common.{◌≡◌, take}
+use Rattle.ig_space.proofs.list.ListTryClone.copy.Given as goal
+
+abbrev pub invariant-loop-item : goal.invariant-loop-item
+invariant-loop-item g l = l.items.items ≡ take l.item-index l.item-items

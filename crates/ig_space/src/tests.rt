@@ -1,0 +1,138 @@
+ghost use Rattle.std.specs.Prelude.{◌≡◌};
+ghost use Rattle.ig_space.specs.Grid.{IsBox};
+
+use crate::{
+    Box3, Bytes, Encoding, Geometry, List, Names, Path, Place, Point, Text, TryClone, Volume,
+    Width, WrongLength, chunk_name, raw_decode, raw_encode,
+};
+use std::alloc::{AllocError, Global};
+use std::process::Abort;
+use std::test::Fail;
+
+fn point(x: u64, y: u64, z: u64) -> Point
+    ensures x { result.x ≡ x }
+    ensures y { result.y ≡ y }
+    ensures z { result.z ≡ z }
+{
+    Point { x, y, z }
+}
+
+fn area(rt: &impl Abort, lo: Point, hi: Point) -> Box3
+    ensures { IsBox result }
+{
+    assert!(rt; lo.x < hi.x && lo.y < hi.y && lo.z < hi.z);
+    assert!(rt; hi.x < 100 && hi.y < 100 && hi.z < 100);
+    Box3 { lo, hi }
+}
+
+/// A text of so many `a`.
+fn letters(alloc: Global, count: u32) -> Result<String, AllocError> {
+    let mut text = String::new(alloc);
+    for _ in 0..count {
+        text.push('a')?;
+    }
+    Ok(text)
+}
+
+#[test]
+fn texts_and_lists_are_copied(rt: HostRuntime) -> Result<(), Fail> {
+    let text = Text::of(rt.alloc(), "info")?;
+    assert_eq!(rt; text.copy()?.as_str(), "info");
+
+    let bytes = Bytes::of(rt.alloc(), [1, 2, 3].as_slice())?;
+    assert_eq!(rt; bytes.copy()?.as_bytes(), [1, 2, 3].as_slice());
+
+    let mut names: Names = List::new(rt.alloc());
+    names.push(text)?;
+    if let Some(name) = names.get_mut(0) {
+        *name = Text::of(rt.alloc(), "b")?;
+    }
+    let copy = names.copy()?;
+    assert_eq!(rt; copy.len(), 1);
+    assert_eq!(rt; copy.get(0).ok_or("no name")?.as_str(), "b");
+    Ok(())
+}
+
+#[test]
+fn paths_are_segments_without_a_first_dot_or_dash(rt: HostRuntime) -> Result<(), Fail> {
+    for (text, is_path) in [
+        ("a", true),
+        ("8_8_8", true),
+        ("a/b.c-d", true),
+        ("", false),
+        ("/a", false),
+        ("a/", false),
+        ("a//b", false),
+        (".a", false),
+        ("a/.b", false),
+        ("-a", false),
+        ("a/-b", false),
+        ("a b", false),
+        ("a:b", false),
+    ] {
+        let path = Path::new(rt.alloc(), text)?;
+        assert_eq!(rt; path.is_some(), is_path, "at {text}");
+    }
+
+    let longest = letters(rt.alloc(), 400)?;
+    assert!(rt; Path::new(rt.alloc(), longest.as_str())?.is_some());
+    let longer = letters(rt.alloc(), 401)?;
+    assert!(rt; Path::new(rt.alloc(), longer.as_str())?.is_none());
+    Ok(())
+}
+
+#[test]
+fn paths_are_joined_and_copied(rt: HostRuntime) -> Result<(), Fail> {
+    let dir = Path::new(rt.alloc(), "seg/8_8_8")?.ok_or("no path")?;
+    let name = Path::new(rt.alloc(), "info")?.ok_or("no path")?;
+    let joined = dir.join(&name)?.ok_or("too long")?;
+    assert_eq!(rt; joined.copy()?.as_str(), "seg/8_8_8/info");
+    Ok(())
+}
+
+#[test]
+fn chunks_are_named_by_their_boxes(rt: HostRuntime) -> Result<(), Fail> {
+    for (lo, hi, wanted) in [
+        (point(10, 20, 30), point(14, 22, 32), "10-14_20-22_30-32"),
+        (point(14, 20, 30), point(15, 22, 32), "14-15_20-22_30-32"),
+        (point(10, 22, 30), point(14, 23, 32), "10-14_22-23_30-32"),
+        (point(14, 22, 30), point(15, 23, 32), "14-15_22-23_30-32"),
+    ] {
+        let name = chunk_name(rt.alloc(), area(&rt, lo, hi))?;
+        assert_eq!(rt; name.as_str(), wanted);
+    }
+    Ok(())
+}
+
+#[test]
+fn places_are_copied(rt: HostRuntime) -> Result<(), Fail> {
+    let geometry = Geometry {
+        offset: point(10, 20, 30),
+        size: point(5, 3, 2),
+        chunk: point(4, 2, 2),
+        width: Width::W64,
+        encoding: Encoding::Raw,
+    };
+    assert!(rt; geometry.fits());
+    let dir = Path::new(rt.alloc(), "8_8_8")?.ok_or("no path")?;
+    let copy = Place { dir, geometry }.copy()?;
+    assert_eq!(rt; copy.dir.as_str(), "8_8_8");
+    assert_eq!(rt; copy.geometry, geometry);
+    Ok(())
+}
+
+#[test]
+fn raw_texts_have_the_lowest_byte_first(rt: HostRuntime) -> Result<(), Fail> {
+    let mut volume = Volume::zeros(rt.alloc(), point(1, 1, 1))?;
+    volume.set(point(0, 0, 0), 7);
+    let text = raw_encode(rt.alloc(), &volume, Width::W64)?;
+    assert_eq!(rt; text.as_bytes(), [7, 0, 0, 0, 0, 0, 0, 0].as_slice());
+
+    let mut read = Volume::zeros(rt.alloc(), point(1, 1, 1))?;
+    raw_decode(text.as_bytes(), Width::W64, &mut read)?;
+    assert_eq!(rt; read.copy()?.get(point(0, 0, 0)), 7);
+
+    let refused = raw_decode([1, 2, 3].as_slice(), Width::W64, &mut read);
+    assert_eq!(rt; refused, Err(WrongLength { got: 3, want: 8 }));
+    Ok(())
+}
