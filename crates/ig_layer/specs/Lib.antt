@@ -1,0 +1,5 @@
+pub mod Layer
+pub mod Texts
+pub mod Points
+pub mod OneCell
+pub mod OneChunk
