@@ -1,0 +1,5 @@
+pub mod Fails
+pub mod Memory
+pub mod Names
+pub mod Sink
+pub mod Ticks
