@@ -1,0 +1,5 @@
+pub mod Lists
+pub mod Parsed
+pub mod Limits
+pub mod NewLayer
+pub mod ReadBack

@@ -1,0 +1,9 @@
+pub mod DataCode
+pub mod Answer
+pub mod Parts
+pub mod Scale
+pub mod Info
+pub mod Scales
+pub mod Whole
+pub mod Reading
+pub mod Dest
