@@ -1,0 +1,53 @@
+-- What a call did, by its words, its status, and the log at its entry and its exit.
+use Rattle.std.specs.Prelude.{◌≡◌, ℕ, List, [], ◌∷◌, ◌++◌, Some}
+use Rattle.ig_defs.specs.Files.{Files, file_at}
+use Rattle.ig_defs.specs.Log.{Log, IsQuiet, files_of}
+use Rattle.ig_defs.specs.Own.{File, Moment, moments_since, put_all, puts_of, reads_of}
+use Rattle.ig_meaning.specs.Refusal.{Refusal}
+use Rattle.ig_meaning.specs.Stage.{Stage, info_files, planned_puts, planned_reads, sequential, wanted_files}
+use Rattle.ig_meaning.specs.Plan.{stage_of}
+use Rattle.ig_meaning.specs.Fault.{Making, Refused, Unfinished, Planned, fault_of, making_of}
+use Rattle.ig_meaning.specs.Ending.{AreFirst}
+use Rattle.ig_meaning.specs.Lines.{fault_line, refusal_text}
+
+-- At status 0 the files are those at entry, with the info of the new layer put and then each wanted file, which is
+-- defined from the whole volume of the source in the files at entry; and nothing else changed.
+pub record IsCopied (words : List (List ℕ)) (old new : Log) : Type 0 where
+  pub stage : Stage
+  pub planned : stage_of words (files_of old) ≡ Some stage
+  pub outputs : List File
+  pub wanted : wanted_files stage (file_at (files_of old)) ≡ Some outputs
+  pub files : files_of new ≡ put_all (files_of old) (info_files stage.info ++ outputs)
+
+-- At status 0 they are also those of the sequential run of the stage's tasks, on the files at entry with the info
+-- put; and the own reads after the making are the inputs of each task, in order, each once.
+pub record IsSequential (words : List (List ℕ)) (old new : Log) : Type 0 where
+  pub stage : Stage
+  pub after : List Moment
+  pub made : making_of words (moments_since old new) ≡ Planned stage after
+  pub files : sequential stage (put_all (files_of old) (info_files stage.info)) ≡ Some (files_of new)
+  pub reads : reads_of after ≡ planned_reads stage
+
+-- each own step only looks
+abbrev pub AllLook : List Moment → Type 0
+AllLook [] = Unit {0}
+AllLook (m ∷ ms) = IsQuiet m.act × AllLook ms
+
+-- Where the making was refused, or was not finished, the own steps only look. Else the own puts are first ones of the
+-- plan: the info, and then what the sequential run puts.
+abbrev pub PutsInOrder : Making → Files → List Moment → Type 0
+PutsInOrder (Refused refusal) files ms = AllLook ms
+PutsInOrder Unfinished files ms = AllLook ms
+PutsInOrder (Planned stage after) files ms = AreFirst (puts_of ms) (planned_puts stage files)
+
+-- Where a task refused, the own puts are all of that plan.
+abbrev pub PutsAll : Making → Files → List Moment → Type 0
+PutsAll (Refused refusal) files ms = Unit {0}
+PutsAll Unfinished files ms = Unit {0}
+PutsAll (Planned stage after) files ms = puts_of ms ≡ planned_puts stage files
+
+-- the line on standard error at status 5: that of the fault
+pub record IsRefusal (words : List (List ℕ)) (old new : Log) (text : List ℕ) : Type 0 where
+  pub refusal : Refusal
+  pub fault : fault_of words (moments_since old new) ≡ Some refusal
+  pub line : text ≡ fault_line (refusal_text refusal)

@@ -1,0 +1,52 @@
+-- How a call ended, and what its own steps then are.
+use Rattle.std.specs.Prelude.{◌≡◌, ℕ, List, ◌++◌, take, Option, None, Some}
+use Rattle.ig_defs.specs.Files.{Files, file_at}
+use Rattle.ig_defs.specs.Own.{File, Moment, put_all, puts_of, reads_of}
+use Rattle.ig_meaning.specs.Refusal.{Refusal}
+use Rattle.ig_meaning.specs.Stage.{Stage, info_files, planned_puts, planned_reads, sequential, wanted_files}
+use Rattle.ig_meaning.specs.Fault.{fault_of_run}
+
+pub data Ending : Type 0 where
+  Finished : Ending
+  Refuses : (refusal : Refusal) → Ending
+  StoreFailed : Ending
+  NoMemory : Ending
+
+-- the fault is that of the ending; want of memory may come at any place
+abbrev pub IsFaultOf : Ending → Option Refusal → Type 0
+IsFaultOf Finished fault = fault ≡ None
+IsFaultOf (Refuses refusal) fault = fault ≡ Some refusal
+IsFaultOf StoreFailed fault = fault ≡ None
+IsFaultOf NoMemory fault = Unit {0}
+
+-- some first ones of these
+pub record AreFirst {A : Type 0} (xs all : List A) : Type 0 where
+  pub number : ℕ
+  pub are : xs ≡ take number all
+
+-- all of these, where the run went as far as it could; else some first ones
+abbrev pub AreAsFar : {A : Type 0} → Ending → List A → List A → Type 0
+AreAsFar Finished xs all = xs ≡ all
+AreAsFar (Refuses refusal) xs all = xs ≡ all
+AreAsFar StoreFailed xs all = AreFirst xs all
+AreAsFar NoMemory xs all = AreFirst xs all
+
+-- The wanted files of the stage, in these files, were put after its info.
+pub record PutsWanted (s : Stage) (files : Files) (puts : List File) : Type 0 where
+  pub outputs : List File
+  pub wanted : wanted_files s (file_at files) ≡ Some outputs
+  pub put : puts ≡ info_files s.info ++ outputs
+
+abbrev pub IfFinished : Ending → Type 0 → Type 0
+IfFinished Finished P = P
+IfFinished (Refuses refusal) P = Unit {0}
+IfFinished StoreFailed P = Unit {0}
+IfFinished NoMemory P = Unit {0}
+
+-- The own steps of a run of the stage on these files, which ended so.
+pub record HasRun (s : Stage) (files : Files) (ms : List Moment) (ending : Ending) : Type 0 where
+  pub fault : IsFaultOf ending (fault_of_run s ms)
+  pub puts : AreAsFar ending (puts_of ms) (planned_puts s files)
+  pub reads : IfFinished ending (reads_of ms ≡ planned_reads s)
+  pub wanted : IfFinished ending (PutsWanted s files (puts_of ms))
+  pub sequential : IfFinished ending (sequential s (put_all files (info_files s.info)) ≡ Some (put_all files (puts_of ms)))

@@ -1,0 +1,53 @@
+-- What a command prints.
+use Rattle.std.specs.Prelude.{ℕ, List, [], ◌∷◌, ◌++◌, codes}
+use Rattle.std.specs.Fmt.{decimal}
+use Rattle.ig_info.specs.declared.error.InfoError.{InfoError}
+use Rattle.ig_info.specs.declared.error.InfoError.TheVariants.{NotJson, Member, Unsupported, Memory}
+use Rattle.ig_meaning.specs.Refusal.{Cause, WrongLength, Refusal, Missing, BadInfo, NotEmpty, Malformed}
+use Rattle.ig_meaning.specs.Stage.{Kind, Xfer, Stage, task_count}
+
+-- the text and a line end
+abbrev pub line : List ℕ → List ℕ
+line text = text ++ 10 ∷ []
+
+-- two texts with a blank between them
+abbrev pub spaced : List ℕ → List ℕ → List ℕ
+spaced left right = left ++ 32 ∷ right
+
+abbrev pub kind_word : Kind → List ℕ
+kind_word Xfer = codes "xfer"
+
+-- on standard output, once a stage has run: ran KIND tasks N
+abbrev pub ran_line : Kind → ℕ → List ℕ
+ran_line kind tasks = line (spaced (codes "ran") (spaced (kind_word kind) (spaced (codes "tasks") (decimal tasks))))
+
+abbrev pub stage_line : Stage → List ℕ
+stage_line s = ran_line s.kind (task_count s)
+
+abbrev pub info_cause : InfoError → List ℕ
+info_cause NotJson = codes "not JSON"
+info_cause (Member path) = spaced (codes "member") path
+info_cause (Unsupported member) = spaced (codes "unsupported") member
+info_cause Memory = codes "out of memory"
+
+abbrev pub cause_text : Cause → List ℕ
+cause_text (WrongLength got want) = spaced (codes "wrong length") (spaced (decimal got) (spaced (codes "want") (decimal want)))
+
+abbrev pub refusal_text : Refusal → List ℕ
+refusal_text (Missing path) = spaced (codes "missing") path
+refusal_text (BadInfo path cause) = spaced (codes "malformed") (spaced path (info_cause cause))
+refusal_text (NotEmpty path) = spaced (codes "not empty") path
+refusal_text (Malformed path cause) = spaced (codes "malformed") (spaced path (cause_text cause))
+
+-- on standard error, for the fault with which a command ends
+abbrev pub fault_line : List ℕ → List ℕ
+fault_line text = line (codes "igneous: " ++ text)
+
+abbrev pub words_text : List ℕ
+words_text = codes "the words are not a command"
+
+abbrev pub store_text : List ℕ
+store_text = codes "store fault"
+
+abbrev pub memory_text : List ℕ
+memory_text = codes "out of memory"
