@@ -1,0 +1,13 @@
+pub mod CanRun
+pub mod ChunkNames
+pub mod Copies
+pub mod CopyFiles
+pub mod Dids
+pub mod Exits
+pub mod InfoApart
+pub mod Makings
+pub mod OneTask
+pub mod Performs
+pub mod Promises
+pub mod Reports
+pub mod Turns

@@ -1,0 +1,34 @@
+use Rattle.ig_cli.proofs.Performs.{fault_at, outcome}
+use Rattle.ig_cli.proofs.Promises.{copied, in_order, in_sequence, is_a_status, only_puts, printed, printed_part, refused_judged, to_the_refusal, told_refusal}
+use Rattle.ig_cli.proofs.command.igneous.Goals as goal
+
+pub returns-clause-statuses : goal.returns-clause-statuses
+returns-clause-statuses g c = is_a_status _ _ c.report.ensures.status
+
+pub returns-clause-refused : goal.returns-clause-refused
+returns-clause-refused g c = λ tells. refused_judged _ _ _ c.report.ensures.status (fault_at _ _ _ _ (c.perform-outcome.ensures.performed tells))
+
+pub returns-clause-copied : goal.returns-clause-copied
+returns-clause-copied g c = λ tells. copied _ _ _ _ _ c.report.ensures.status (outcome _ _ _ _ (c.perform-outcome.ensures.performed tells))
+
+pub returns-clause-in_sequence : goal.returns-clause-in_sequence
+returns-clause-in_sequence g c = λ tells. in_sequence _ _ _ _ _ c.report.ensures.status (outcome _ _ _ _ (c.perform-outcome.ensures.performed tells))
+
+pub returns-clause-only_puts : goal.returns-clause-only_puts
+returns-clause-only_puts g c = λ tells. only_puts _ _ _ _ (outcome _ _ _ _ (c.perform-outcome.ensures.performed tells))
+
+pub returns-clause-in_order : goal.returns-clause-in_order
+returns-clause-in_order g c = λ tells. in_order _ _ _ _ (outcome _ _ _ _ (c.perform-outcome.ensures.performed tells))
+
+pub returns-clause-to_the_refusal : goal.returns-clause-to_the_refusal
+returns-clause-to_the_refusal g c = λ tells. to_the_refusal _ _ _ _ _ c.report.ensures.status (outcome _ _ _ _ (c.perform-outcome.ensures.performed tells))
+
+pub returns-clause-printed : goal.returns-clause-printed
+returns-clause-printed g c = λ tells out_tells. printed _ _ _ _ _ _ _ (c.perform-outcome.ensures.performed tells) c.report.ensures.status (c.report.ensures.out out_tells)
+
+pub returns-clause-printed_part : goal.returns-clause-printed_part
+returns-clause-printed_part g c = λ tells out_tells. printed_part _ _ _ _ _ _ _ (c.perform-outcome.ensures.performed tells) c.report.ensures.status (c.report.ensures.out out_tells)
+
+pub returns-clause-told_refusal : goal.returns-clause-told_refusal
+returns-clause-told_refusal g c = λ tells err_tells quiet.
+    told_refusal _ _ _ _ _ _ c.report.ensures.status (c.report.ensures.err err_tells) quiet _ _ _ (fault_at _ _ _ _ (c.perform-outcome.ensures.performed tells))

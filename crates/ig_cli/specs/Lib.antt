@@ -1,0 +1,10 @@
+pub mod Allowed
+pub mod Pipeline
+pub mod Did
+pub mod Words
+pub mod Stages
+pub mod Making
+pub mod Running
+pub mod Report
+pub mod Performed
+pub mod Printed

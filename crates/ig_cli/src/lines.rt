@@ -1,0 +1,193 @@
+//! The lines that a command prints, each with its line end.
+ghost use Rattle.std.specs.Prelude.{◌≡◌, IfOk, codes, string_bytes};
+ghost use Rattle.ig_meaning.specs.Refusal as refusal;
+ghost use Rattle.ig_meaning.specs.Stage.{Xfer};
+ghost use Rattle.ig_meaning.specs.Ending.{Refuses};
+ghost use Rattle.ig_meaning.specs.Lines.{fault_line, refusal_text, spaced, ran_line as line_of_ran};
+ghost use Rattle.ig_cli.specs.Making.{ending_of_make};
+ghost use Rattle.ig_cli.specs.Running.{cause_of, ending_of_local, ending_of_run};
+ghost use Rattle.ig_cli.specs.Report.{shown_line, status_of, Ends, Tells};
+
+use crate::making::MakeError;
+use crate::running::{Cause, LocalError, RunError};
+use ig_info::InfoError;
+use std::alloc::{AllocError, Global};
+
+/// The line on standard error of a command that ended early.
+#[derive(Debug, Drop)]
+pub enum FaultLine {
+    Refused(String),
+    Words,
+    Store,
+    Memory,
+}
+
+impl FaultLine {
+    /// The status that goes with it.
+    pub fn status(&self) -> u8
+        ensures { result ≡ status_of self.now }
+    {
+        match self {
+            FaultLine::Refused(_) => 5,
+            FaultLine::Words => 2,
+            FaultLine::Store => 6,
+            FaultLine::Memory => 7,
+        }
+    }
+
+    pub fn as_bytes(&self) -> &[u8]
+        ensures { result.now ≡ shown_line self.now }
+    {
+        match self {
+            FaultLine::Refused(line) => line.as_str().as_bytes(),
+            FaultLine::Words => b"igneous: the words are not a command\n",
+            FaultLine::Store => b"igneous: store fault\n",
+            FaultLine::Memory => b"igneous: out of memory\n",
+        }
+    }
+}
+
+/// The line of tasks that were run.
+pub fn ran_line(alloc: Global, tasks: u64) -> Result<String, AllocError>
+    ensures { IfOk result (λ line. string_bytes line ≡ line_of_ran Xfer tasks) }
+{
+    format!(in alloc; "ran xfer tasks {tasks}\n")
+}
+
+fn missing(alloc: Global, path: &str) -> Result<String, AllocError>
+    ensures { IfOk result (λ line. string_bytes line ≡ fault_line (refusal_text (refusal.Missing path.now))) }
+{
+    format!(in alloc; "igneous: missing {path}\n")
+}
+
+fn not_empty(alloc: Global, path: &str) -> Result<String, AllocError>
+    ensures { IfOk result (λ line. string_bytes line ≡ fault_line (refusal_text (refusal.NotEmpty path.now))) }
+{
+    format!(in alloc; "igneous: not empty {path}\n")
+}
+
+/// The line of a malformed file with this cause.
+fn malformed(alloc: Global, path: &str, cause: &str) -> Result<String, AllocError>
+    ensures { IfOk result (λ line. string_bytes line ≡ fault_line (spaced (codes "malformed") (spaced path.now cause.now))) }
+{
+    format!(in alloc; "igneous: malformed {path} {cause}\n")
+}
+
+/// The line of a malformed file where this member is the cause.
+fn malformed_at(alloc: Global, path: &str, cause: &str, member: &str) -> Result<String, AllocError>
+    ensures { IfOk result (λ line. string_bytes line ≡ fault_line (spaced (codes "malformed") (spaced path.now (spaced cause.now member.now)))) }
+{
+    format!(in alloc; "igneous: malformed {path} {cause} {member}\n")
+}
+
+fn wrong_length(alloc: Global, path: &str, got: u64, want: u64) -> Result<String, AllocError>
+    ensures { IfOk result (λ line. string_bytes line ≡ fault_line (refusal_text (refusal.Malformed path.now (refusal.WrongLength got want)))) }
+{
+    format!(in alloc; "igneous: malformed {path} wrong length {got} want {want}\n")
+}
+
+fn bad_info(alloc: Global, path: &str, cause: &InfoError) -> Result<String, AllocError>
+    ensures { IfOk result (λ line. string_bytes line ≡ fault_line (refusal_text (refusal.BadInfo path.now cause.now))) }
+{
+    match cause {
+        InfoError::NotJson => malformed(alloc, path, "not JSON"),
+        InfoError::Member { path: member } => malformed_at(alloc, path, "member", member.as_str()),
+        InfoError::Unsupported { member } => {
+            malformed_at(alloc, path, "unsupported", member.as_str())
+        }
+        InfoError::Memory => malformed(alloc, path, "out of memory"),
+    }
+}
+
+fn bad_file(alloc: Global, path: &str, cause: &Cause) -> Result<String, AllocError>
+    ensures { IfOk result (λ line. string_bytes line ≡ fault_line (refusal_text (refusal.Malformed path.now (cause_of cause.now)))) }
+{
+    match cause {
+        Cause::Length { got, want } => wrong_length(alloc, path, *got, *want),
+    }
+}
+
+/// The line of a refusal; that of memory where none was left for it.
+fn refused(line: Result<String, AllocError>) -> FaultLine
+    ensures { (r : refusal.Refusal) → IfOk line (λ line. string_bytes line ≡ fault_line (refusal_text r)) → Tells (Ends (Refuses r)) result }
+{
+    match line {
+        Ok(line) => FaultLine::Refused(line),
+        Err(_) => FaultLine::Memory,
+    }
+}
+
+/// The line of a copy that was not made.
+fn line_of_make(alloc: Global, e: &MakeError) -> FaultLine
+    ensures { Tells (Ends (ending_of_make e.now)) result }
+{
+    match e {
+        MakeError::Missing { path } => refused(missing(alloc, path.as_str())),
+        MakeError::BadInfo { path, cause } => refused(bad_info(alloc, path.as_str(), cause)),
+        MakeError::DestNotEmpty { path } => refused(not_empty(alloc, path.as_str())),
+        MakeError::Failed => FaultLine::Store,
+        MakeError::Memory => FaultLine::Memory,
+    }
+}
+
+/// The line of a task that refused.
+fn line_of_run(alloc: Global, e: &RunError) -> FaultLine
+    ensures { Tells (Ends (ending_of_run e.now)) result }
+{
+    match e {
+        RunError::Missing { path } => refused(missing(alloc, path.as_str())),
+        RunError::Malformed { path, cause } => refused(bad_file(alloc, path.as_str(), cause)),
+        RunError::Memory => FaultLine::Memory,
+    }
+}
+
+/// The line of a command without a queue that ended early.
+pub fn line_of_local(alloc: Global, e: &LocalError) -> FaultLine
+    ensures { Tells (Ends (ending_of_local e.now)) result }
+{
+    match e {
+        LocalError::Make(e) => line_of_make(alloc, e),
+        LocalError::Run(e) => line_of_run(alloc, e),
+    }
+}
+
+#[cfg(test)]
+mod tests {
+    use super::*;
+    use ig_space::{Path, Text};
+    use std::process::Abort;
+
+    fn info_path(alloc: Global, rt: &impl Abort) -> Path {
+        let path = Path::new(alloc, "out/info").expect(rt, "memory");
+        path.expect(rt, "a path")
+    }
+
+    #[test]
+    fn tells_what_ran(rt: HostRuntime) {
+        let line = ran_line(rt.alloc(), 12).expect(&rt, "memory");
+        assert_eq!(rt; line.as_str(), "ran xfer tasks 12\n");
+    }
+
+    #[test]
+    fn tells_what_was_refused(rt: HostRuntime) {
+        let member = Text::of(rt.alloc(), "scales[0].key").expect(&rt, "memory");
+        let path = info_path(rt.alloc(), &rt);
+        let e = LocalError::Make(MakeError::BadInfo {
+            path,
+            cause: InfoError::Member { path: member },
+        });
+        let line = line_of_local(rt.alloc(), &e);
+        assert_eq!(rt;
+            line.as_bytes(),
+            b"igneous: malformed out/info member scales[0].key\n".as_slice()
+        );
+        let path = info_path(rt.alloc(), &rt);
+        let cause = Cause::Length { got: 7, want: 8 };
+        let e = LocalError::Run(RunError::Malformed { path, cause });
+        let line = line_of_local(rt.alloc(), &e);
+        assert_eq!(rt;
+            line.as_bytes(),
+            b"igneous: malformed out/info wrong length 7 want 8\n".as_slice()
+        );
+    }
+}
