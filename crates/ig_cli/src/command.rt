@@ -75,11 +75,11 @@ fn perform<S: Store<Pipeline>>(
 /// missing or malformed or the new layer isn't empty, 6 at a fault of the store, 7 where memory ran out, 9 at a fault of
 /// the output.
 pub fn igneous<R: Threads + Sync, S: Store<Pipeline>, C: Clock, O: Sink, E: Sink>(
-    _rt: &R,
+    rt: &R,
     alloc: Global,
     words: &Vec<String>,
     store: &mut S,
-    _clock: &mut C,
+    clock: &mut C,
     out: &mut O,
     err: &mut E,
 ) -> u8

@@ -30,8 +30,8 @@ impl Rule for Pipeline {
 }
 
 /// The rule that the store of a command with these words has to keep.
-pub fn rule_of(_alloc: Global, _words: &Vec<String>) -> Result<Pipeline, AllocError>
-    ensures { IfOk result (λ rule. rule ≡ rule_of_words _words.now.items) }
+pub fn rule_of(alloc: Global, words: &Vec<String>) -> Result<Pipeline, AllocError>
+    ensures { IfOk result (λ rule. rule ≡ rule_of_words words.now.items) }
 {
     Ok(Pipeline {
         queue: None,

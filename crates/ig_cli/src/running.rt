@@ -77,9 +77,9 @@ impl From<AllocError> for RecodeError {
 }
 
 /// The number of tasks: the box of a task is twice a chunk on each axis, and so the one chunk is one task.
-fn tasks(_stage: &Stage) -> u64
-    requires { CanRun _stage.now }
-    ensures { result ≡ task_count (shown _stage.now) }
+fn tasks(stage: &Stage) -> u64
+    requires { CanRun stage.now }
+    ensures { result ≡ task_count (shown stage.now) }
 {
     1
 }

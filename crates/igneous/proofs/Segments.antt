@@ -1,6 +1,6 @@
--- A text without `/` is one segment of a path, and a segment in a directory makes a path there.
+-- A segment is a path of one part, and a segment in a directory makes a path there.
 use Rattle.std.proofs.Common.{◌≡◌, ◌↔◌, ◌<◌, ◌≤◌, ◌+◌, ◌==◌, ◌&&◌, ◌||◌, ◌++◌, ℕ, Bool, true, false, not, List, [], ◌∷◌, refl, sym, ap, subst, ◌∙◌, arith, length, length-append, nat_le, if◌then◌else◌, true≢false}
-use Rattle.std.proofs.lemmas.Bool.{and_parts, and_from, leb-true, le-leb, eqb-true, not-true, lt-ltb, ltb-true}
+use Rattle.std.proofs.lemmas.Bool.{and_parts, and_from, leb-true, le-leb, eqb-true, lt-ltb, ltb-true}
 use Rattle.std.proofs.Common.{ltb}
 use Rattle.std.proofs.lemmas.List.Folds.{list_all-append}
 use Rattle.std.specs.List.{list_all, list_any}
@@ -55,27 +55,6 @@ all_of : (xs : List ℕ) → is_path xs ≡ true → list_all is_segment (segmen
 unfolding is_path
 all_of xs path = (and_parts (nat_le (length xs) 400) _ path).1
 
-segment_of : (xs : List ℕ) → is_path xs ≡ true → has_slash xs ≡ false → is_segment xs ≡ true
-segment_of xs path none =
-    let P : List (List ℕ) → Type 0 = λ ss. list_all is_segment ss ≡ true in
-    (and_parts (is_segment xs) true (subst P (one_part xs none) (all_of xs path))).0
-
--- of a path
-pub tells_segment : (xs : List ℕ) (slash : Bool) → is_path xs ≡ true → slash ≡ has_slash xs
-    → (not slash ≡ true) ↔ ((is_segment xs ≡ true) × (length xs ≤ 400))
-tells_segment xs slash path is = (
-  λ none. (segment_of xs path (sym is ∙ not-true slash none), is_path-short xs path),
-  λ segment. rw (is, no_slash xs (bytes_of xs segment.0)) refl,
-)
-
--- of what isn't a path
-pub tells_none : (xs : List ℕ) (path : Bool) → path ≡ is_path xs → path ≡ false
-    → (path ≡ true) ↔ ((is_segment xs ≡ true) × (length xs ≤ 400))
-tells_none xs path is refused = (
-  λ yes. absurd (true≢false (sym yes ∙ refused)),
-  λ segment. is ∙ is_path-from_segment xs segment.0 segment.1,
-)
-
 -- the parts of a path in a directory
 begins : (cs : List ℕ) → (s : List ℕ) × (ss : List (List ℕ)) × (segments cs ≡ s ∷ ss)
 begins [] = ([], [], refl)
@@ -108,26 +87,23 @@ is_path-joined dir name d n short =
     (rw (segments-joined dir name, list_all-append is_segment (segments dir) (segments name)) (and_from _ _ (all_of dir d) (all_of name n)))
 
 -- the name in the directory, by its length
-pub IsNameIn-from : (dir name : List ℕ) → is_path dir ≡ true → is_segment name ≡ true → length name ≤ 400 → length dir + length name < 400 → IsNameIn dir name
-IsNameIn-from dir name d segment len short =
-    record { segment = segment; path = is_path-joined dir name d (is_path-from_segment name segment len) short }
+pub IsNameIn-from : (dir name : List ℕ) → is_path dir ≡ true → is_segment name ≡ true → length dir + length name < 400 → IsNameIn dir name
+IsNameIn-from dir name d segment short =
+    record { segment = segment; path = is_path-joined dir name d (is_path-from_segment name segment (omega (arith, short))) short }
 
 pub IsNameIn-short : (dir name : List ℕ) → IsNameIn dir name → length dir + length name < 400
 IsNameIn-short dir name is = omega (arith, length-append dir (47 ∷ name), is_path-short (joined dir name) is.path)
 
 -- of a segment
-pub tells_name : (dir name : List ℕ) (segment : Bool) → is_path dir ≡ true → (segment ≡ true) ↔ ((is_segment name ≡ true) × (length name ≤ 400)) → segment ≡ true
-    → (ltb (length dir + length name) 400 ≡ true) ↔ IsNameIn dir name
-tells_name dir name segment d told is =
-    let known = told.0 is in (
-      λ short. IsNameIn-from dir name d known.0 known.1 (ltb-true (length dir + length name) 400 short),
-      λ named. lt-ltb (length dir + length name) 400 (IsNameIn-short dir name named),
-    )
+pub tells_name : (dir name : List ℕ) → is_path dir ≡ true → is_segment name ≡ true → (ltb (length dir + length name) 400 ≡ true) ↔ IsNameIn dir name
+tells_name dir name d segment = (
+  λ short. IsNameIn-from dir name d segment (ltb-true (length dir + length name) 400 short),
+  λ named. lt-ltb (length dir + length name) 400 (IsNameIn-short dir name named),
+)
 
 -- of what isn't a segment
-pub tells_no_name : (dir name : List ℕ) (segment : Bool) → (segment ≡ true) ↔ ((is_segment name ≡ true) × (length name ≤ 400)) → segment ≡ false
-    → (segment ≡ true) ↔ IsNameIn dir name
-tells_no_name dir name segment told refused = (
+pub tells_no_name : (dir name : List ℕ) (told : Bool) → told ≡ is_segment name → told ≡ false → (told ≡ true) ↔ IsNameIn dir name
+tells_no_name dir name told is refused = (
   λ yes. absurd (true≢false (sym yes ∙ refused)),
-  λ named. told.1 (named.segment, omega (arith, IsNameIn-short dir name named)),
+  λ named. is ∙ named.segment,
 )

@@ -4,11 +4,11 @@ ghost use Rattle.std.specs.String.{string_cmp};
 ghost use Rattle.std.specs.Ordering.{nat_cmp};
 ghost use Rattle.std.specs.Cmp.Lexicographic.{slice_cmp};
 ghost use Rattle.std.specs.IoError.{error_kind};
-ghost use Rattle.ig_space.specs.Path.{is_path, is_segment};
+ghost use Rattle.ig_space.specs.Path.{is_path};
 ghost use Rattle.ig_defs.specs.Names.{IsNameIn};
 
 use crate::temp_name::temp_name;
-use ig_space::is_path_text;
+use ig_space::is_segment_text;
 use ig_store::{Bytes, Names, Path, Text};
 use std::alloc::{AllocError, Global};
 use std::fs::File;
@@ -45,13 +45,6 @@ pub fn has_file<F: Files>(rt: &F, place: &str) -> io::Result<bool>
         Err(e) if e.kind() == ErrorKind::NotFound => Ok(false),
         Err(e) => Err(e),
     }
-}
-
-/// Whether the bytes are one segment of a path, and not too many for one.
-fn is_segment_text(name: &[u8]) -> bool
-    ensures { IsTrue result ↔ ((is_segment name.now ≡ true) × (length name.now ≤ 400)) }
-{
-    is_path_text(name) && !name.contains(&b'/')
 }
 
 /// Whether a file of this name may lie directly in the directory.
