@@ -1,5 +1,4 @@
 pub mod Layer
 pub mod Texts
-pub mod Points
 pub mod OneCell
 pub mod OneChunk

@@ -21,7 +21,7 @@ use Rattle.ig_defs.specs.Own.{File}
 use Rattle.ig_layer.specs.Layer.{label_in, label_of, raw_len, volume_at}
 use Rattle.ig_layer.specs.Texts.{all_fit, all_listed, chunk_file, chunk_text, chunks_in, file_if, files_in, labels_in, label_by_number, layer_files, listed, text_of}
 use Rattle.ig_layer.specs.OneCell.{IsOneCell, cell-one, cell_at-one, cell_count-one, hull-one}
-use Rattle.ig_layer.specs.Points.{place_of-point_at, point_at-inside}
+use Rattle.ig_space.specs.Points.{place_of-point_at, point_at-inside}
 
 -- values that are there at each number make the list that has them
 pub all_listed-is : (f : ℕ → Option ℕ) (n : ℕ) (xs : List ℕ) → n ≤ length xs → ((k : ℕ) → k < n → f k ≡ Some (slice_index xs k)) → all_listed f n ≡ Some (take n xs)

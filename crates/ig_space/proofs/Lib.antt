@@ -3,3 +3,4 @@ pub mod ChunkNames
 pub mod ChunksApart
 mod Sides
 mod RawText
+mod Cells

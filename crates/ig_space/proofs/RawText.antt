@@ -1,7 +1,7 @@
 -- The numbers that stand in a text, in n bytes each with the lowest first, make that text again.
-use Rattle.std.proofs.Common.{arith, ◌≡◌, ◌≤◌, ◌<◌, ◌+◌, ◌*◌, ◌/◌, ◌%◌, ◌^◌, ℕ, zero, suc, List, [], ◌∷◌, length, take, drop, slice_index, refl, ap, sym, length-drop, length-append}
-use Rattle.std.proofs.Math.Nat.{div-div-eq-div-mul, pow-succ', mul-zero}
-use Rattle.std.proofs.lemmas.List.{take-append-drop, get_or-drop, drop-drop}
+use Rattle.std.proofs.Common.{arith, ◌≡◌, ◌≤◌, ◌<◌, ◌+◌, ◌*◌, ◌/◌, ◌%◌, ◌^◌, ℕ, zero, suc, List, [], ◌∷◌, length, take, drop, slice_index, slice_set, refl, ap, sym, ◌∙◌, length-drop, length-append, inl, inr, ◌⊎◌}
+use Rattle.std.proofs.Math.Nat.{div-div-eq-div-mul, pow-succ', mul-zero, eq-or-lt_of_le}
+use Rattle.std.proofs.lemmas.List.{take-append-drop, get_or-drop, drop-drop, get_or-set_same, get_or-set_other}
 use Rattle.std.specs.Int.{bytes_low_first, byte_at}
 use Rattle.std.specs.List.{flat_map}
 use Rattle.std.proofs.Math.Seq.{drop-append-add}
@@ -66,3 +66,14 @@ text-number n (x ∷ xs) zero h fits = rw mul-zero (sym (little_number-reads_bac
 text-number n (x ∷ xs) (suc k) h fits =
     let same : n * suc k ≡ length (bytes_low_first 0 n x) + n * k = omega (arith, length-bytes_low_first 0 n x) in
     rw (same, drop-append-add) (text-number n xs k (omega arith) fits)
+
+one_more : (number : ℕ → ℕ) (labels : List ℕ) (p v k : ℕ) → p < length labels → v ≡ number p → ((k : ℕ) → k < p → slice_index labels k ≡ number k)
+    → (k ≡ p) ⊎ (k < p) → slice_index (slice_set labels p v) k ≡ number k
+one_more number labels p v k within e read (inl same) = rw same (get_or-set_same labels p v 0 within ∙ e)
+one_more number labels p v k within e read (inr before) = get_or-set_other labels p k v 0 (λ same. omega (arith, same)) ∙ read k before
+
+-- of the labels one more was read
+pub read-one_more : (number : ℕ → ℕ) (labels : List ℕ) (p v : ℕ) → p < length labels → v ≡ number p → ((k : ℕ) → k < p → slice_index labels k ≡ number k)
+    → (k : ℕ) → k < p + 1 → slice_index (slice_set labels p v) k ≡ number k
+read-one_more number labels p v within e read k below =
+    one_more number labels p v k within e read (eq-or-lt_of_le (omega (arith, below)))

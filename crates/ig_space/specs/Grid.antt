@@ -85,3 +85,15 @@ pub record IsBox (b : Box3) : Type 0 where
   pub x_small : b.hi.x ≤ largest_place
   pub y_small : b.hi.y ≤ largest_place
   pub z_small : b.hi.z ≤ largest_place
+
+-- a space cut into cells: steps of at least 1, and a space within the largest place
+pub record IsGrid (g : Grid) : Type 0 where
+  pub x_step : 1 ≤ g.step.x
+  pub y_step : 1 ≤ g.step.y
+  pub z_step : 1 ≤ g.step.z
+  pub x_order : g.space.lo.x ≤ g.space.hi.x
+  pub y_order : g.space.lo.y ≤ g.space.hi.y
+  pub z_order : g.space.lo.z ≤ g.space.hi.z
+  pub x_small : g.space.hi.x ≤ largest_place
+  pub y_small : g.space.hi.y ≤ largest_place
+  pub z_small : g.space.hi.z ≤ largest_place

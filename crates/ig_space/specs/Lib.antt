@@ -5,3 +5,4 @@ pub mod Raw
 pub mod RawError
 pub mod Grid
 pub mod Chunk
+pub mod Points

@@ -1,6 +1,6 @@
 ghost use Rattle.std.specs.Prelude.{◌≡◌, ◌≤◌, ◌<◌, ◌+◌, ◌^◌, ◌&&◌, nat_le, IsTrue, true};
 ghost use Rattle.ig_space.specs.Geometry.{count, largest_place, padded, blocks_fit, chunk_fits, encoding_fits, geometry_fits, ends_within, Fits};
-ghost use Rattle.ig_space.specs.Grid.{chunks_of};
+ghost use Rattle.ig_space.specs.Grid.{chunks_of, IsGrid};
 
 use crate::{Box3, Point};
 
@@ -145,7 +145,8 @@ impl Geometry {
     /// The grid of its chunks.
     pub fn chunks(&self) -> Grid
         requires { geometry_fits self.now ≡ true }
-        ensures { result ≡ chunks_of self.now }
+        ensures value { result ≡ chunks_of self.now }
+        ensures grid { IsGrid result }
     {
         let (offset, size) = (self.offset, self.size);
         let hi = Point {

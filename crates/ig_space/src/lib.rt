@@ -5,6 +5,7 @@
 
 mod chunk;
 mod geometry;
+mod grid;
 mod list;
 mod order;
 mod path;

@@ -1,7 +1,8 @@
-ghost use Rattle.std.specs.Prelude.{◌≡◌, ◌≤◌, ◌<◌, ◌↔◌, ◌*◌, ◌^◌, IfOk, IsOk, IfErr, OnOk, OnErr, length, drop, slice_index, ℕ};
+ghost use Rattle.std.specs.Prelude.{◌≡◌, ◌≤◌, ◌<◌, ◌↔◌, ◌+◌, ◌*◌, ◌^◌, IfOk, IsOk, IfErr, OnOk, OnErr, IsNone, IfSome, length, drop, flat_map, slice_index, ℕ};
+ghost use Rattle.std.specs.Int.{bytes_low_first};
 ghost use Rattle.byteorder.specs.Endian.{little_number};
 ghost use Rattle.ig_space.specs.Geometry.{count, label_len};
-ghost use Rattle.ig_space.specs.Raw.{raw_text, AllFit};
+ghost use Rattle.ig_space.specs.Raw.{raw_text, AllFit, IsFirstTooWide};
 ghost use Rattle.ig_space.specs.RawError.{Explains};
 
 use crate::{Bytes, Volume, Width};
@@ -26,50 +27,11 @@ pub struct WrongLength {
     pub want: u64,
 }
 
-/// The labels in 8 bytes each.
-fn text_of_64(alloc: Global, labels: &[u64]) -> Result<Vec<u8>, AllocError>
-    requires { length labels.now ≤ 2 ^ 24 }
-    ensures text { IfOk result (λ text. text.items ≡ raw_text Width.W64 labels.now) }
-    ensures fit { AllFit Width.W64 labels.now }
-    ensures length { IfOk result (λ text. length text.items ≡ 8 * length labels.now) }
-{
-    let mut text = vec![in alloc; 0; labels.len() * 8]?;
-    LittleEndian::write_u64_into(labels, &mut text);
-    Ok(text)
-}
-
-/// Reads the labels from 8 bytes each.
-pub(crate) fn read_64(text: &[u8], labels: &mut [u64])
-    requires { length text.now ≡ 8 * length labels.old }
-    ensures length { length labels.new ≡ length labels.old }
-    ensures text { raw_text Width.W64 labels.new ≡ text.now }
-    ensures each { (k : ℕ) → k < length labels.new → slice_index labels.new k ≡ little_number 8 (drop (8 * k) text.now) }
-{
-    LittleEndian::read_u64_into(text, labels);
-}
-
-/// The labels of the volume, each in the bytes of the width with the lowest first (Neuroglancer precomputed volume
-/// format, "raw" encoding).
-pub fn raw_encode(alloc: Global, volume: &Volume, width: Width) -> Result<Bytes, RawError>
-    requires width { width ≡ Width.W64 }
-    ensures text { IfOk result (λ bytes. bytes ≡ raw_text width volume.now.labels) }
-    ensures fit { OnOk result (AllFit width volume.now.labels) }
-    ensures length { IfOk result (λ bytes. length bytes ≡ label_len width * count volume.now.size) }
-    ensures each { IfOk result (λ bytes. (k : ℕ) → k < length volume.now.labels → slice_index volume.now.labels k ≡ little_number (label_len width) (drop (label_len width * k) bytes)) }
-    ensures refusal { IfErr result (λ e. Explains width volume.now.labels e) }
-{
-    match width {
-        Width::W64 => match text_of_64(alloc, volume.labels()) {
-            Ok(text) => Ok(Bytes::from_vec(text)),
-            Err(_) => Err(RawError::Memory),
-        },
-        _ => unreachable!(),
-    }
-}
-
 /// How many bytes a label has.
 fn bytes_each(width: Width) -> usize
-    ensures { result ≡ label_len width }
+    ensures value { result ≡ label_len width }
+    ensures some { 1 ≤ result }
+    ensures few { result ≤ 8 }
 {
     match width {
         Width::W8 => 1,
@@ -79,9 +41,108 @@ fn bytes_each(width: Width) -> usize
     }
 }
 
+/// The greatest label of the width.
+fn largest_label(width: Width) -> u64
+    ensures { result + 1 ≡ 256 ^ label_len width }
+{
+    match width {
+        Width::W8 => u64::from(u8::MAX),
+        Width::W16 => u64::from(u16::MAX),
+        Width::W32 => u64::from(u32::MAX),
+        Width::W64 => u64::MAX,
+    }
+}
+
+/// Where the first label stands that doesn't fit the width.
+fn first_too_wide(labels: &[u64], width: Width) -> Option<usize>
+    ensures fit { IsNone result → AllFit width labels.now }
+    ensures wide { IfSome result (IsFirstTooWide width labels.now) }
+{
+    let largest = largest_label(width);
+    labels.iter().position(|label| *label > largest)
+}
+
+/// Writes the labels in N bytes each, the lowest first.
+fn write_labels<const N: usize>(labels: &[u64], text: &mut [u8])
+    requires some { 1 ≤ N }
+    requires few { N ≤ 8 }
+    requires room { length text.old ≡ N * length labels.now }
+    requires fit { (k : ℕ) → k < length labels.now → slice_index labels.now k < 256 ^ N }
+    ensures { text.new ≡ flat_map (bytes_low_first 0 N) labels.now }
+{
+    for (place, label) in labels.iter().enumerate() {
+        LittleEndian::write_uint(&mut text[N * place..], *label, N);
+    }
+}
+
+/// Reads the labels from N bytes each, the lowest first.
+fn read_labels<const N: usize>(text: &[u8], labels: &mut [u64])
+    requires some { 1 ≤ N }
+    requires few { N ≤ 8 }
+    requires room { length text.now ≡ N * length labels.old }
+    ensures length { length labels.new ≡ length labels.old }
+    ensures text { flat_map (bytes_low_first 0 N) labels.new ≡ text.now }
+    ensures each { (k : ℕ) → k < length labels.new → slice_index labels.new k ≡ little_number N (drop (N * k) text.now) }
+{
+    for place in 0..labels.len() {
+        labels[place] = LittleEndian::read_uint(&text[N * place..], N);
+    }
+}
+
+/// The raw text of the labels, which fit the width.
+fn text_of(alloc: Global, labels: &[u64], width: Width) -> Result<Vec<u8>, AllocError>
+    requires few { length labels.now ≤ 2 ^ 24 }
+    requires fit { AllFit width labels.now }
+    ensures { IfOk result (λ text. text.items ≡ raw_text width labels.now) }
+{
+    let mut text = vec![in alloc; 0; labels.len() * bytes_each(width)]?;
+    match width {
+        Width::W8 => write_labels::<1>(labels, &mut text),
+        Width::W16 => write_labels::<2>(labels, &mut text),
+        Width::W32 => write_labels::<4>(labels, &mut text),
+        Width::W64 => write_labels::<8>(labels, &mut text),
+    }
+    Ok(text)
+}
+
+/// Reads the labels from a raw text that is as long as theirs.
+pub(crate) fn read_text(text: &[u8], width: Width, labels: &mut [u64])
+    requires { length text.now ≡ label_len width * length labels.old }
+    ensures length { length labels.new ≡ length labels.old }
+    ensures text { raw_text width labels.new ≡ text.now }
+    ensures fit { AllFit width labels.new }
+    ensures each { (k : ℕ) → k < length labels.new → slice_index labels.new k ≡ little_number (label_len width) (drop (label_len width * k) text.now) }
+{
+    match width {
+        Width::W8 => read_labels::<1>(text, labels),
+        Width::W16 => read_labels::<2>(text, labels),
+        Width::W32 => read_labels::<4>(text, labels),
+        Width::W64 => read_labels::<8>(text, labels),
+    }
+}
+
+/// The labels of the volume, each in the bytes of the width with the lowest first (Neuroglancer precomputed volume
+/// format, "raw" encoding).
+pub fn raw_encode(alloc: Global, volume: &Volume, width: Width) -> Result<Bytes, RawError>
+    ensures text { IfOk result (λ bytes. bytes ≡ raw_text width volume.now.labels) }
+    ensures fit { OnOk result (AllFit width volume.now.labels) }
+    ensures length { IfOk result (λ bytes. length bytes ≡ label_len width * count volume.now.size) }
+    ensures each { IfOk result (λ bytes. (k : ℕ) → k < length volume.now.labels → slice_index volume.now.labels k ≡ little_number (label_len width) (drop (label_len width * k) bytes)) }
+    ensures refusal { IfErr result (λ e. Explains width volume.now.labels e) }
+{
+    if let Some(index) = first_too_wide(volume.labels(), width) {
+        return Err(RawError::ValueTooWide {
+            index: index as u64,
+        });
+    }
+    match text_of(alloc, volume.labels(), width) {
+        Ok(text) => Ok(Bytes::from_vec(text)),
+        Err(_) => Err(RawError::Memory),
+    }
+}
+
 /// Puts the labels of a raw text into the volume, where the text has as many as the volume.
 pub fn raw_decode(bytes: &[u8], width: Width, out: &mut Volume) -> Result<(), WrongLength>
-    requires width { width ≡ Width.W64 }
     ensures ok { IsOk result ↔ (length bytes.now ≡ label_len width * count out.old.size) }
     ensures size { out.new.size ≡ out.old.size }
     ensures text { OnOk result (raw_text width out.new.labels ≡ bytes.now) }
@@ -97,6 +158,6 @@ pub fn raw_decode(bytes: &[u8], width: Width, out: &mut Volume) -> Result<(), Wr
             want: want as u64,
         });
     }
-    out.read_64(bytes);
+    out.read_text(bytes, width);
     Ok(())
 }

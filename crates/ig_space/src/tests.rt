@@ -1,12 +1,10 @@
 ghost use Rattle.std.specs.Prelude.{◌≡◌};
-ghost use Rattle.ig_space.specs.Grid.{IsBox};
 
 use crate::{
-    Box3, Bytes, Encoding, Geometry, List, Names, Path, Place, Point, Text, TryClone, Volume,
+    Bytes, Encoding, Geometry, List, Names, Path, Place, Point, RawError, Text, TryClone, Volume,
     Width, WrongLength, chunk_name, raw_decode, raw_encode,
 };
 use std::alloc::{AllocError, Global};
-use std::process::Abort;
 use std::test::Fail;
 
 fn point(x: u64, y: u64, z: u64) -> Point
@@ -15,14 +13,6 @@ fn point(x: u64, y: u64, z: u64) -> Point
     ensures z { result.z ≡ z }
 {
     Point { x, y, z }
-}
-
-fn area(rt: &impl Abort, lo: Point, hi: Point) -> Box3
-    ensures { IsBox result }
-{
-    assert!(rt; lo.x < hi.x && lo.y < hi.y && lo.z < hi.z);
-    assert!(rt; hi.x < 100 && hi.y < 100 && hi.z < 100);
-    Box3 { lo, hi }
 }
 
 /// A text of so many `a`.
@@ -90,15 +80,31 @@ fn paths_are_joined_and_copied(rt: HostRuntime) -> Result<(), Fail> {
     Ok(())
 }
 
+/// A scale of four chunks.
+fn four_chunks() -> Geometry {
+    Geometry {
+        offset: point(10, 20, 30),
+        size: point(5, 3, 2),
+        chunk: point(4, 2, 2),
+        width: Width::W64,
+        encoding: Encoding::Raw,
+    }
+}
+
 #[test]
-fn chunks_are_named_by_their_boxes(rt: HostRuntime) -> Result<(), Fail> {
-    for (lo, hi, wanted) in [
-        (point(10, 20, 30), point(14, 22, 32), "10-14_20-22_30-32"),
-        (point(14, 20, 30), point(15, 22, 32), "14-15_20-22_30-32"),
-        (point(10, 22, 30), point(14, 23, 32), "10-14_22-23_30-32"),
-        (point(14, 22, 30), point(15, 23, 32), "14-15_22-23_30-32"),
+fn scales_are_cut_into_chunks_with_names(rt: HostRuntime) -> Result<(), Fail> {
+    let geometry = four_chunks();
+    assert!(rt; geometry.fits());
+    let grid = geometry.chunks();
+    assert_eq!(rt; grid.count(), 4);
+    for (number, wanted) in [
+        (0, "10-14_20-22_30-32"),
+        (1, "14-15_20-22_30-32"),
+        (2, "10-14_22-23_30-32"),
+        (3, "14-15_22-23_30-32"),
     ] {
-        let name = chunk_name(rt.alloc(), area(&rt, lo, hi))?;
+        assert!(rt; u128::from(number) < grid.count());
+        let name = chunk_name(rt.alloc(), grid.cell(number))?;
         assert_eq!(rt; name.as_str(), wanted);
     }
     Ok(())
@@ -106,13 +112,7 @@ fn chunks_are_named_by_their_boxes(rt: HostRuntime) -> Result<(), Fail> {
 
 #[test]
 fn places_are_copied(rt: HostRuntime) -> Result<(), Fail> {
-    let geometry = Geometry {
-        offset: point(10, 20, 30),
-        size: point(5, 3, 2),
-        chunk: point(4, 2, 2),
-        width: Width::W64,
-        encoding: Encoding::Raw,
-    };
+    let geometry = four_chunks();
     assert!(rt; geometry.fits());
     let dir = Path::new(rt.alloc(), "8_8_8")?.ok_or("no path")?;
     let copy = Place { dir, geometry }.copy()?;
@@ -134,5 +134,28 @@ fn raw_texts_have_the_lowest_byte_first(rt: HostRuntime) -> Result<(), Fail> {
 
     let refused = raw_decode([1, 2, 3].as_slice(), Width::W64, &mut read);
     assert_eq!(rt; refused, Err(WrongLength { got: 3, want: 8 }));
+    Ok(())
+}
+
+#[test]
+fn labels_have_the_bytes_of_their_width(rt: HostRuntime) -> Result<(), Fail> {
+    let mut volume = Volume::zeros(rt.alloc(), point(2, 1, 1))?;
+    volume.set(point(0, 0, 0), 1);
+    volume.set(point(1, 0, 0), 258);
+    let text = raw_encode(rt.alloc(), &volume, Width::W16)?;
+    assert_eq!(rt; text.as_bytes(), [1, 0, 2, 1].as_slice());
+    let refused = raw_encode(rt.alloc(), &volume, Width::W8);
+    assert!(rt; matches!(refused, Err(RawError::ValueTooWide { index: 1 })));
+
+    let refused = raw_decode([1, 2, 3].as_slice(), Width::W16, &mut volume);
+    assert_eq!(rt; refused, Err(WrongLength { got: 3, want: 4 }));
+    raw_decode([1, 2].as_slice(), Width::W8, &mut volume)?;
+    assert_eq!(rt; volume.labels(), [1, 2].as_slice());
+    raw_decode(
+        [4, 3, 2, 1, 0, 0, 0, 128].as_slice(),
+        Width::W32,
+        &mut volume,
+    )?;
+    assert_eq!(rt; volume.labels(), [0x01020304, 0x80000000].as_slice());
     Ok(())
 }

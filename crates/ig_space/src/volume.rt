@@ -1,10 +1,10 @@
 ghost use Rattle.std.specs.Prelude.{◌≡◌, ◌≤◌, ◌<◌, ◌^◌, IfOk, length, replicate, slice_set, slice_index, drop, ◌*◌, ℕ};
 ghost use Rattle.byteorder.specs.Endian.{little_number};
-ghost use Rattle.ig_space.specs.Raw.{raw_text};
-ghost use Rattle.ig_space.specs.Geometry.{count};
+ghost use Rattle.ig_space.specs.Raw.{raw_text, AllFit};
+ghost use Rattle.ig_space.specs.Geometry.{count, label_len};
 ghost use Rattle.ig_space.specs.Volume.{IsInside, place_of, voxel};
 
-use crate::raw::read_64;
+use crate::raw::read_text;
 use crate::{Point, TryClone, Width};
 use std::alloc::{AllocError, Global};
 use std::marker::Model;
@@ -66,14 +66,15 @@ impl Volume {
         self.labels.as_slice()
     }
 
-    /// Reads all labels from their raw text of 8 bytes each.
-    pub(crate) fn read_64(&mut self, text: &[u8])
-        requires { length text.now ≡ 8 * length self.old.labels }
+    /// Reads all labels from their raw text.
+    pub(crate) fn read_text(&mut self, text: &[u8], width: Width)
+        requires { length text.now ≡ label_len width * length self.old.labels }
         ensures size { self.new.size ≡ self.old.size }
-        ensures text { raw_text Width.W64 self.new.labels ≡ text.now }
-        ensures each { (k : ℕ) → k < length self.new.labels → slice_index self.new.labels k ≡ little_number 8 (drop (8 * k) text.now) }
+        ensures text { raw_text width self.new.labels ≡ text.now }
+        ensures fit { AllFit width self.new.labels }
+        ensures each { (k : ℕ) → k < length self.new.labels → slice_index self.new.labels k ≡ little_number (label_len width) (drop (label_len width * k) text.now) }
     {
-        read_64(text, &mut self.labels);
+        read_text(text, width, &mut self.labels);
     }
 
     /// The label of the voxel.
