@@ -1,6 +1,8 @@
-pub mod Segments
-pub mod ChunkNames
-pub mod ChunksApart
 mod Sides
 mod RawText
 mod Cells
+mod Parts
+mod Decimals
+mod NameParts
+mod Listed
+mod Hulls

@@ -1,5 +1,6 @@
 -- The names of chunks (Neuroglancer precomputed volume format, "Unsharded chunk storage").
-use Rattle.std.specs.Prelude.{ℕ, Bool, false, List, [], ◌∷◌, ◌++◌}
+use Rattle.std.specs.Prelude.{ℕ, Bool, false, not, ◌==◌, ◌&&◌, List, [], ◌∷◌, ◌++◌}
+use Rattle.std.specs.List.{list_all}
 use Rattle.std.specs.Fmt.{decimal}
 use Rattle.ig_space.specs.declared.point.Box3.{Box3}
 use Rattle.ig_space.specs.Path.{joined, within}
@@ -20,3 +21,13 @@ chunk_path dir b = joined dir (chunk_name b)
 abbrev pub begins_with_digit : List ℕ → Bool
 begins_with_digit [] = false
 begins_with_digit (c ∷ cs) = within 48 57 c
+
+-- the byte is not in the text
+abbrev pub lacks : ℕ → List ℕ → Bool
+lacks c text = list_all (λ x. not (x == c)) text
+
+-- the text begins with neither `+` nor a `0` before other bytes
+abbrev pub is_plain : List ℕ → Bool
+is_plain [] = false
+is_plain (c ∷ []) = not (c == 43)
+is_plain (c ∷ d ∷ cs) = not (c == 43) && not (c == 48)

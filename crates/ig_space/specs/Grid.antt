@@ -67,6 +67,12 @@ cell_at g x y z = cell_of g (record { x = index_along g.space.lo.x g.step.x x; y
 abbrev pub is_in : Box3 → ℕ → ℕ → ℕ → Bool
 is_in b x y z = nat_le b.lo.x x && nat_lt x b.hi.x && nat_le b.lo.y y && nat_lt y b.hi.y && nat_le b.lo.z z && nat_lt z b.hi.z
 
+-- the number of the cell that the voxel lies in, x fastest
+abbrev pub number_at : Grid → ℕ → ℕ → ℕ → ℕ
+number_at g x y z =
+    index_along g.space.lo.x g.step.x x
+    + (counts g).x * (index_along g.space.lo.y g.step.y y + (counts g).y * index_along g.space.lo.z g.step.z z)
+
 -- the grid of those cells that meet the box: its cells are cells of g, in the same order
 abbrev pub hull : Grid → Box3 → Grid
 hull g a = record {
@@ -76,6 +82,23 @@ hull g a = record {
   };
   step = g.step;
 }
+
+-- the voxel lies in the box
+pub record IsIn (b : Box3) (x y z : ℕ) : Type 0 where
+  pub x_from : b.lo.x ≤ x
+  pub x_to : x < b.hi.x
+  pub y_from : b.lo.y ≤ y
+  pub y_to : y < b.hi.y
+  pub z_from : b.lo.z ≤ z
+  pub z_to : z < b.hi.z
+
+-- there is a voxel that lies in both boxes
+pub record Meets (a b : Box3) : Type 0 where
+  pub x : ℕ
+  pub y : ℕ
+  pub z : ℕ
+  pub in_left : IsIn a x y z
+  pub in_right : IsIn b x y z
 
 -- the box isn't empty, and ends within the largest place
 pub record IsBox (b : Box3) : Type 0 where
@@ -97,3 +120,15 @@ pub record IsGrid (g : Grid) : Type 0 where
   pub x_small : g.space.hi.x ≤ largest_place
   pub y_small : g.space.hi.y ≤ largest_place
   pub z_small : g.space.hi.z ≤ largest_place
+
+-- the box isn't empty and lies in the space
+pub record IsWithin (a space : Box3) : Type 0 where
+  pub x_from : space.lo.x ≤ a.lo.x
+  pub x_some : a.lo.x < a.hi.x
+  pub x_to : a.hi.x ≤ space.hi.x
+  pub y_from : space.lo.y ≤ a.lo.y
+  pub y_some : a.lo.y < a.hi.y
+  pub y_to : a.hi.y ≤ space.hi.y
+  pub z_from : space.lo.z ≤ a.lo.z
+  pub z_some : a.lo.z < a.hi.z
+  pub z_to : a.hi.z ≤ space.hi.z

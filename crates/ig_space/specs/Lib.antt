@@ -5,4 +5,13 @@ pub mod Raw
 pub mod RawError
 pub mod Grid
 pub mod Chunk
+pub mod Segments
+pub mod ChunkNames
+pub mod ChunksApart
 pub mod Points
+pub mod Chunks
+pub mod Cells
+pub mod Hulls
+pub mod HullCells
+pub mod CellBoxes
+pub mod ChunkPaths

@@ -1,11 +1,15 @@
 -- A volume as a size and a list of labels: x fastest, then y, then z (Neuroglancer precomputed volume format, "raw").
-use Rattle.std.specs.Prelude.{ℕ, ◌+◌, ◌*◌, ◌^◌, ◌<◌, ◌≤◌, ◌≡◌, List, length, slice_index}
+use Rattle.std.specs.Prelude.{ℕ, ◌+◌, ◌*◌, ◌^◌, ◌<◌, ◌≤◌, ◌≡◌, List, length, slice_index, ◌++◌, take, drop}
 use Rattle.ig_space.specs.declared.point.Point.{Point}
 use Rattle.ig_space.specs.Geometry.{count}
 
 pub record Voxels : Type 0 where
   pub size : Point
   pub labels : List ℕ
+
+-- with these labels written over the first ones
+abbrev pub with_labels : Voxels → List ℕ → Voxels
+with_labels v labels = record { size = v.size; labels = take (length v.labels) (labels ++ drop (length labels) v.labels) }
 
 -- where the voxel at (x, y, z) stands in the list of a box of this size
 abbrev pub place_of : Point → ℕ → ℕ → ℕ → ℕ

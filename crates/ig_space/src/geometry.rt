@@ -1,5 +1,5 @@
 ghost use Rattle.std.specs.Prelude.{◌≡◌, ◌≤◌, ◌<◌, ◌+◌, ◌^◌, ◌&&◌, nat_le, IsTrue, true};
-ghost use Rattle.ig_space.specs.Geometry.{count, largest_place, padded, blocks_fit, chunk_fits, encoding_fits, geometry_fits, ends_within, Fits};
+ghost use Rattle.ig_space.specs.Geometry.{count, largest_place, padded, blocks_fit, chunk_fits, encoding_fits, geometry_fits, ends_within as ends_in_space, Fits};
 ghost use Rattle.ig_space.specs.Grid.{chunks_of, IsGrid};
 
 use crate::{Box3, Point};
@@ -39,7 +39,7 @@ pub struct Grid {
 }
 
 /// No coordinate is above this.
-const LARGEST_PLACE: u64 = 1 << 40;
+pub const LARGEST_PLACE: u64 = 1 << 40;
 
 /// A chunk has at most this many voxels.
 const LARGEST_CHUNK: u64 = 1 << 21;
@@ -59,6 +59,13 @@ fn ends(offset: u64, side: u64) -> bool
     ensures { result ≡ nat_le (offset + side) largest_place }
 {
     side <= LARGEST_PLACE && offset <= LARGEST_PLACE - side
+}
+
+/// Whether a scale of this offset and size ends within the largest place.
+pub fn ends_within(offset: Point, size: Point) -> bool
+    ensures { result ≡ ends_in_space offset size }
+{
+    ends(offset.x, size.x) && ends(offset.y, size.y) && ends(offset.z, size.z)
 }
 
 /// Whether a box of this size has at most so many voxels.
@@ -135,9 +142,7 @@ impl Geometry {
         ensures facts { IsTrue result → Fits self.now }
     {
         has_sides(self.size)
-            && (ends(self.offset.x, self.size.x)
-                && ends(self.offset.y, self.size.y)
-                && ends(self.offset.z, self.size.z))
+            && ends_within(self.offset, self.size)
             && is_chunk(self.chunk)
             && can_encode(self.chunk, self.width, self.encoding)
     }

@@ -4,6 +4,7 @@
 #![tactic(auto)]
 
 mod chunk;
+mod chunks;
 mod geometry;
 mod grid;
 mod list;
@@ -13,18 +14,23 @@ mod place;
 mod point;
 mod raw;
 mod segment;
+mod task_id;
 #[cfg(test)]
 mod tests;
 mod text;
 mod volume;
 
-pub use chunk::chunk_name;
-pub use geometry::{Encoding, Geometry, Grid, Width};
+pub use chunk::{chunk_name, parse_chunk_name};
+pub use chunks::{chunk_path, chunks_of};
+pub use geometry::{Encoding, Geometry, Grid, LARGEST_PLACE, Width, ends_within};
 pub use list::{Bytes, List, Names, Paths, TryClone};
 pub use path::{Path, is_path_text};
 pub use place::Place;
 pub use point::{Box3, Point};
-pub use raw::{RawError, WrongLength, raw_decode, raw_encode};
+pub use raw::{
+    RawError, WrongLength, bytes_each, raw_decode, raw_encode, read_labels, write_labels,
+};
 pub use segment::is_segment_text;
+pub use task_id::TaskId;
 pub use text::Text;
 pub use volume::Volume;

@@ -28,7 +28,7 @@ pub struct WrongLength {
 }
 
 /// How many bytes a label has.
-fn bytes_each(width: Width) -> usize
+pub fn bytes_each(width: Width) -> usize
     ensures value { result ≡ label_len width }
     ensures some { 1 ≤ result }
     ensures few { result ≤ 8 }
@@ -63,7 +63,7 @@ fn first_too_wide(labels: &[u64], width: Width) -> Option<usize>
 }
 
 /// Writes the labels in N bytes each, the lowest first.
-fn write_labels<const N: usize>(labels: &[u64], text: &mut [u8])
+fn write_each<const N: usize>(labels: &[u64], text: &mut [u8])
     requires some { 1 ≤ N }
     requires few { N ≤ 8 }
     requires room { length text.old ≡ N * length labels.now }
@@ -76,7 +76,7 @@ fn write_labels<const N: usize>(labels: &[u64], text: &mut [u8])
 }
 
 /// Reads the labels from N bytes each, the lowest first.
-fn read_labels<const N: usize>(text: &[u8], labels: &mut [u64])
+fn read_each<const N: usize>(text: &[u8], labels: &mut [u64])
     requires some { 1 ≤ N }
     requires few { N ≤ 8 }
     requires room { length text.now ≡ N * length labels.old }
@@ -89,24 +89,22 @@ fn read_labels<const N: usize>(text: &[u8], labels: &mut [u64])
     }
 }
 
-/// The raw text of the labels, which fit the width.
-fn text_of(alloc: Global, labels: &[u64], width: Width) -> Result<Vec<u8>, AllocError>
-    requires few { length labels.now ≤ 2 ^ 24 }
+/// Writes the labels, which fit the width, into a text that is as long as their raw text.
+pub fn write_labels(labels: &[u64], width: Width, text: &mut [u8])
+    requires room { length text.old ≡ label_len width * length labels.now }
     requires fit { AllFit width labels.now }
-    ensures { IfOk result (λ text. text.items ≡ raw_text width labels.now) }
+    ensures { text.new ≡ raw_text width labels.now }
 {
-    let mut text = vec![in alloc; 0; labels.len() * bytes_each(width)]?;
     match width {
-        Width::W8 => write_labels::<1>(labels, &mut text),
-        Width::W16 => write_labels::<2>(labels, &mut text),
-        Width::W32 => write_labels::<4>(labels, &mut text),
-        Width::W64 => write_labels::<8>(labels, &mut text),
+        Width::W8 => write_each::<1>(labels, text),
+        Width::W16 => write_each::<2>(labels, text),
+        Width::W32 => write_each::<4>(labels, text),
+        Width::W64 => write_each::<8>(labels, text),
     }
-    Ok(text)
 }
 
 /// Reads the labels from a raw text that is as long as theirs.
-pub(crate) fn read_text(text: &[u8], width: Width, labels: &mut [u64])
+pub fn read_labels(text: &[u8], width: Width, labels: &mut [u64])
     requires { length text.now ≡ label_len width * length labels.old }
     ensures length { length labels.new ≡ length labels.old }
     ensures text { raw_text width labels.new ≡ text.now }
@@ -114,11 +112,22 @@ pub(crate) fn read_text(text: &[u8], width: Width, labels: &mut [u64])
     ensures each { (k : ℕ) → k < length labels.new → slice_index labels.new k ≡ little_number (label_len width) (drop (label_len width * k) text.now) }
 {
     match width {
-        Width::W8 => read_labels::<1>(text, labels),
-        Width::W16 => read_labels::<2>(text, labels),
-        Width::W32 => read_labels::<4>(text, labels),
-        Width::W64 => read_labels::<8>(text, labels),
+        Width::W8 => read_each::<1>(text, labels),
+        Width::W16 => read_each::<2>(text, labels),
+        Width::W32 => read_each::<4>(text, labels),
+        Width::W64 => read_each::<8>(text, labels),
     }
+}
+
+/// The raw text of the labels, which fit the width.
+fn text_of(alloc: Global, labels: &[u64], width: Width) -> Result<Vec<u8>, AllocError>
+    requires few { length labels.now ≤ 2 ^ 24 }
+    requires fit { AllFit width labels.now }
+    ensures { IfOk result (λ text. text.items ≡ raw_text width labels.now) }
+{
+    let mut text = vec![in alloc; 0; labels.len() * bytes_each(width)]?;
+    write_labels(labels, width, &mut text);
+    Ok(text)
 }
 
 /// The labels of the volume, each in the bytes of the width with the lowest first (Neuroglancer precomputed volume
@@ -158,6 +167,6 @@ pub fn raw_decode(bytes: &[u8], width: Width, out: &mut Volume) -> Result<(), Wr
             want: want as u64,
         });
     }
-    out.read_text(bytes, width);
+    read_labels(bytes, width, out.labels_mut());
     Ok(())
 }

@@ -1,8 +1,10 @@
-ghost use Rattle.std.specs.Prelude.{◌≡◌};
+ghost use Rattle.std.specs.Prelude.{◌≡◌, IsTrue};
+ghost use Rattle.ig_space.specs.Grid.{IsWithin};
 
 use crate::{
-    Bytes, Encoding, Geometry, List, Names, Path, Place, Point, RawError, Text, TryClone, Volume,
-    Width, WrongLength, chunk_name, raw_decode, raw_encode,
+    Box3, Bytes, Encoding, Geometry, List, Names, Path, Paths, Place, Point, RawError, Text,
+    TryClone, Volume, Width, WrongLength, chunk_name, chunks_of, parse_chunk_name, raw_decode,
+    raw_encode,
 };
 use std::alloc::{AllocError, Global};
 use std::test::Fail;
@@ -106,6 +108,81 @@ fn scales_are_cut_into_chunks_with_names(rt: HostRuntime) -> Result<(), Fail> {
         assert!(rt; u128::from(number) < grid.count());
         let name = chunk_name(rt.alloc(), grid.cell(number))?;
         assert_eq!(rt; name.as_str(), wanted);
+    }
+    Ok(())
+}
+
+/// Whether the box isn't empty and lies in the space.
+fn is_within(area: Box3, space: Box3) -> bool
+    ensures { IsTrue result → IsWithin area space }
+{
+    let (lo, hi) = (area.lo, area.hi);
+    (space.lo.x <= lo.x && lo.x < hi.x && hi.x <= space.hi.x)
+        && (space.lo.y <= lo.y && lo.y < hi.y && hi.y <= space.hi.y)
+        && (space.lo.z <= lo.z && lo.z < hi.z && hi.z <= space.hi.z)
+}
+
+/// Whether the paths have these texts, in this order.
+fn are(paths: &Paths, texts: &[&str]) -> bool {
+    let mut pairs = paths.as_slice().iter().zip(texts);
+    pairs.all(|(path, text)| path.as_str() == *text)
+}
+
+#[test]
+fn chunks_that_meet_a_box_are_listed(rt: HostRuntime) -> Result<(), Fail> {
+    let dir = Path::new(rt.alloc(), "8_8_8")?.ok_or("no path")?;
+    let geometry = four_chunks();
+    assert!(rt; geometry.fits());
+    assert!(rt; dir.len() <= 300);
+    let place = Place { dir, geometry };
+    for (lo, hi, wanted) in [
+        (
+            point(10, 20, 30),
+            point(15, 23, 32),
+            [
+                "8_8_8/10-14_20-22_30-32",
+                "8_8_8/14-15_20-22_30-32",
+                "8_8_8/10-14_22-23_30-32",
+                "8_8_8/14-15_22-23_30-32",
+            ]
+            .as_slice(),
+        ),
+        (
+            point(13, 21, 30),
+            point(14, 22, 31),
+            ["8_8_8/10-14_20-22_30-32"].as_slice(),
+        ),
+        (
+            point(14, 20, 30),
+            point(15, 23, 32),
+            ["8_8_8/14-15_20-22_30-32", "8_8_8/14-15_22-23_30-32"].as_slice(),
+        ),
+    ] {
+        let area = Box3 { lo, hi };
+        assert!(rt; is_within(area, geometry.chunks().space));
+        let paths = chunks_of(rt.alloc(), &place, area)?;
+        assert_eq!(rt; paths.len(), wanted.len());
+        assert!(rt; are(&paths, wanted), "not {wanted:?}");
+    }
+    Ok(())
+}
+
+#[test]
+fn names_of_chunks_are_read(rt: HostRuntime) -> Result<(), Fail> {
+    let area = parse_chunk_name("10-14_20-22_30-32").ok_or("no box")?;
+    assert_eq!(rt; area.lo, point(10, 20, 30));
+    assert_eq!(rt; area.hi, point(14, 22, 32));
+    for text in [
+        "010-14_20-22_30-32",
+        "14-14_20-22_30-32",
+        "+10-14_20-22_30-32",
+        "10-14_20-22",
+        "10-14_20-22_30-32_40-42",
+        "10-14_20-22_30-1099511627777",
+        "10-14_20-22_30",
+        "",
+    ] {
+        assert!(rt; parse_chunk_name(text).is_none(), "at {text}");
     }
     Ok(())
 }

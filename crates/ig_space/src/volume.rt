@@ -1,11 +1,10 @@
-ghost use Rattle.std.specs.Prelude.{◌≡◌, ◌≤◌, ◌<◌, ◌^◌, IfOk, length, replicate, slice_set, slice_index, drop, ◌*◌, ℕ};
-ghost use Rattle.byteorder.specs.Endian.{little_number};
-ghost use Rattle.ig_space.specs.Raw.{raw_text, AllFit};
-ghost use Rattle.ig_space.specs.Geometry.{count, label_len};
-ghost use Rattle.ig_space.specs.Volume.{IsInside, place_of, voxel};
+ghost use Rattle.std.specs.Prelude.{◌≡◌, ◌≤◌, ◌<◌, ◌^◌, IfOk, length, replicate, slice_set};
+ghost use Rattle.ig_space.specs.Geometry.{count};
+ghost use Rattle.ig_space.specs.Volume.{IsInside, place_of, voxel, with_labels};
+ghost use Rattle.std.specs.Borrow.{Lends, Array, sem, u64};
+ghost use Rattle.ig_space.specs.contracts.volume.Volume.{the_row};
 
-use crate::raw::read_text;
-use crate::{Point, TryClone, Width};
+use crate::{Point, TryClone};
 use std::alloc::{AllocError, Global};
 use std::marker::Model;
 
@@ -66,15 +65,12 @@ impl Volume {
         self.labels.as_slice()
     }
 
-    /// Reads all labels from their raw text.
-    pub(crate) fn read_text(&mut self, text: &[u8], width: Width)
-        requires { length text.now ≡ label_len width * length self.old.labels }
-        ensures size { self.new.size ≡ self.old.size }
-        ensures text { raw_text width self.new.labels ≡ text.now }
-        ensures fit { AllFit width self.new.labels }
-        ensures each { (k : ℕ) → k < length self.new.labels → slice_index self.new.labels k ≡ little_number (label_len width) (drop (label_len width * k) text.now) }
+    /// The labels, to be changed.
+    pub fn labels_mut(&mut self) -> &mut [u64]
+        ensures* writes_back { sem 𝓛 (Lends the_row (Array u64 0) self.entry result (with_labels self.old)) }
+        ensures value { result.now ≡ self.old.labels }
     {
-        read_text(text, width, &mut self.labels);
+        self.labels.as_mut_slice()
     }
 
     /// The label of the voxel.

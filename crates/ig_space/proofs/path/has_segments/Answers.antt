@@ -1,5 +1,5 @@
 use Rattle.std.proofs.Common.{sym}
-use Rattle.ig_space.proofs.Segments.{stops}
+use Rattle.ig_space.specs.Segments.{stops}
 use Rattle.ig_space.proofs.path.has_segments.Goals as goal
 
 pub returns-then-not-may_come : goal.returns-then-not-may_come

@@ -2,7 +2,7 @@
 use Rattle.std.proofs.Common.{◌≡◌, drop}
 use Rattle.std.specs.List.{list_all}
 use Rattle.ig_space.specs.Path.{is_segment, segments}
-use Rattle.ig_space.proofs.Segments.{goes_on}
+use Rattle.ig_space.specs.Segments.{goes_on}
 use Rattle.ig_space.proofs.path.has_segments.Given as goal
 
 abbrev pub invariant-loop-c : goal.invariant-loop-c

@@ -1,5 +1,5 @@
 use Rattle.std.proofs.Common.{arith}
-use Rattle.ig_space.proofs.Segments.{is_path-joined_text}
+use Rattle.ig_space.specs.Segments.{is_path-joined_text}
 use Rattle.ig_space.proofs.path.Path.join.Goals as goal
 
 pub invariant_of-result : goal.invariant_of-result

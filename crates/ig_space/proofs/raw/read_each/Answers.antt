@@ -2,7 +2,7 @@ use Rattle.std.proofs.Common.{arith, ◌*◌, drop, length-set, ◌∙◌, ap, s
 use Rattle.std.proofs.lemmas.List.{take_rest}
 use Rattle.byteorder.specs.Endian.{little_number}
 use Rattle.ig_space.proofs.RawText.{read-one_more, text-numbers}
-use Rattle.ig_space.proofs.raw.read_labels.Goals as goal
+use Rattle.ig_space.proofs.raw.read_each.Goals as goal
 
 pub loop-place-preserved : goal.loop-place-preserved
 loop-place-preserved g c =

@@ -10,7 +10,7 @@ use Rattle.ig_space.specs.Path.{is_path, is_segment, is_segment_byte, segments, 
 use Rattle.ig_space.specs.Chunk.{span_text, chunk_name, begins_with_digit}
 use Rattle.ig_space.specs.declared.point.Box3.{Box3}
 use Rattle.ig_space.specs.Grid.{IsBox}
-use Rattle.ig_space.proofs.Segments.{is_path-from}
+use Rattle.ig_space.specs.Segments.{is_path-from}
 
 -- a text of digits, `-` and `_` that begins with a digit
 abbrev pub is_name_byte : ℕ → Bool
@@ -87,7 +87,7 @@ is_path-segment (c ∷ cs) short h =
 short : (n : ℕ) → n ≤ 2 ^ 40 → length (decimal n) ≤ 13
 short n h = length-decimal-le 13 n (lit< tt) (omega arith) (omega arith)
 
-length-chunk_name : (b : Box3) → IsBox b → length (chunk_name b) ≤ 400
+pub length-chunk_name : (b : Box3) → IsBox b → length (chunk_name b) ≤ 83
 length-chunk_name b h =
     simp length-append (omega (arith, short b.lo.x (omega arith), short b.hi.x (omega arith), short b.lo.y (omega arith), short b.hi.y (omega arith), short b.lo.z (omega arith), short b.hi.z (omega arith)))
 
@@ -98,4 +98,4 @@ pub begins_with_digit-chunk_name : (b : Box3) → IsBox b → begins_with_digit 
 begins_with_digit-chunk_name b h = (IsName-chunk b h).digit
 
 pub is_path-chunk_name : (b : Box3) → IsBox b → is_path (chunk_name b) ≡ true
-is_path-chunk_name b h = is_path-segment _ (length-chunk_name b h) (is_segment-chunk_name b h)
+is_path-chunk_name b h = is_path-segment _ (omega (arith, length-chunk_name b h)) (is_segment-chunk_name b h)

@@ -1,7 +1,7 @@
 -- So far the first labels were read.
 use Rattle.std.proofs.Common.{◌≡◌, ◌<◌, ◌*◌, length, drop, slice_index, ℕ}
 use Rattle.byteorder.specs.Endian.{little_number}
-use Rattle.ig_space.proofs.raw.read_labels.Given as goal
+use Rattle.ig_space.proofs.raw.read_each.Given as goal
 
 abbrev pub invariant-loop-place : goal.invariant-loop-place
 invariant-loop-place g l =
