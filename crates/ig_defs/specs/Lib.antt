@@ -5,3 +5,4 @@ pub mod Names
 pub mod Causes
 pub mod Calls
 pub mod Own
+pub mod Puts

@@ -1,4 +1,7 @@
 pub mod Layer
 pub mod Texts
-pub mod OneCell
-pub mod OneChunk
+pub mod Faults
+pub mod Listed
+pub mod SameVolume
+pub mod ChunkFiles
+pub mod AllListed

@@ -12,17 +12,12 @@ use Rattle.ig_space.specs.Grid.{cell, cell_count, chunks_of, hull, point_at, siz
 use Rattle.ig_space.specs.Raw.{raw_text}
 use Rattle.ig_defs.specs.Own.{File}
 
--- the values at 0, 1, .. below n
-abbrev pub listed : {A : Type 0} → (ℕ → A) → ℕ → List A
-listed f zero = []
-listed f (suc n) = listed f n ++ f n ∷ []
-
 abbrev pub with_last : {A : Type 0} → Option (List A) → Option A → Option (List A)
 with_last (Some xs) (Some x) = Some (xs ++ x ∷ [])
 with_last (Some xs) None = None
 with_last None x = None
 
--- the same, if each is there
+-- the values at 0, 1, .. below n, if each is there
 abbrev pub all_listed : {A : Type 0} → (ℕ → Option A) → ℕ → Option (List A)
 all_listed f zero = Some []
 all_listed f (suc n) = with_last (all_listed f n) (f n)
@@ -48,10 +43,6 @@ text_of (Cseg block) width (Some labels) = None
 -- the text of a chunk: defined where each of its voxels has a label, and all fit
 abbrev pub chunk_text : Geometry → (ℕ → ℕ → ℕ → Option ℕ) → Box3 → Option (List ℕ)
 chunk_text g volume box = text_of g.encoding g.width (labels_in volume box)
-
--- the paths of the chunks that meet the box, in grid order
-abbrev pub chunks_in : Place → Box3 → List (List ℕ)
-chunks_in place box = listed (λ k. chunk_path place.dir (cell (hull (chunks_of place.geometry) box) k)) (cell_count (hull (chunks_of place.geometry) box))
 
 abbrev pub file_if : List ℕ → Option (List ℕ) → Option File
 file_if path None = None
