@@ -1,0 +1,17 @@
+mod Axis
+mod BlockWrites
+mod Clean
+mod Cuts
+mod FirstFaults
+mod Indices
+mod Numbers
+mod Outside
+mod Positions
+mod RowLabels
+mod RowWrites
+mod Rows
+mod Searches
+mod Spans
+mod Tables
+mod Volumes
+mod Writes

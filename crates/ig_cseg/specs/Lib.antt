@@ -1,0 +1,3 @@
+pub mod Cseg
+pub mod Blocks
+pub mod Labels
