@@ -1,5 +1,7 @@
 pub mod Lists
 pub mod Parsed
+pub mod Ascends
 pub mod Limits
-pub mod NewLayer
+pub mod Readable
 pub mod ReadBack
+pub mod NewLayer

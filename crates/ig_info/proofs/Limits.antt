@@ -22,7 +22,8 @@ use Rattle.ig_info.specs.Parts.{limited, side, triple}
 use Rattle.ig_info.specs.Scale.{scale_fits}
 use Rattle.ig_info.specs.Scales.{triple_member, short_path, has_key, key_of, offset_of, chunk_of, encoding_of, is_absent_or_null, geometry_of, scale_of, scales_after}
 use Rattle.ig_info.specs.Whole.{all_objects, scale_list, is_scale_list, kind_of, head_of, items_of_scales, scales_in, scales_of}
-use Rattle.ig_info.specs.Info.{IsInfo}
+use Rattle.ig_info.specs.Ascending.{ascends}
+use Rattle.ig_info.specs.Reading.{IsInfo, info_of}
 
 -- ---- the steps of a reader that gave a value
 
@@ -184,27 +185,34 @@ items_of_scales-few d ds e =
     subst (λ k. is_scale_list k ≡ true) t.1 t.0
 
 IsInfo-from : (d : Data) (width : Width) (items : Items) (scales : List Scale) → has_float d ≡ false → is_scale_list items ≡ true → scales_after width [] items ≡ Ok scales → depth d ≤ max_depth
-    → IsInfo (record { members = d; scales = scales })
-IsInfo-from d width items scales whole few e shallow =
+    → ascends d ≡ true → info_of d ≡ Ok (record { members = d; scales = scales }) → IsInfo (record { members = d; scales = scales })
+IsInfo-from d width items scales whole few e shallow ordered same =
     let long = and_parts (nat_le 1 (items_len items)) (nat_le (items_len items) 100) ((and_parts (within 1 100 (items_len items)) (all_objects items) few).0) in
     let low : 1 ≤ items_len items = leb-true 1 (items_len items) long.0 in
     let high : items_len items ≤ 100 = leb-true (items_len items) 100 long.1 in
     let count : length scales ≡ 0 + items_len items = scales_after-length width [] items scales e in record {
       shallow = shallow;
       whole = whole;
+      ordered = ordered;
       some = omega arith;
       few = omega arith;
       fit = scales_after-fit width [] items scales e refl;
+      reads_back = λ can. same;
     }
 
 all_made : (d : Data) (head : Result Width InfoError) (items : Result Items InfoError) (scales : List Scale) → (head >>= λ w. items >>= λ ds. scales_after w [] ds) ≡ Ok scales
     → ((w : Width) → head ≡ Ok w → has_float d ≡ false) → ((ds : Items) → items ≡ Ok ds → is_scale_list ds ≡ true) → depth d ≤ max_depth
-    → IsInfo (record { members = d; scales = scales })
-all_made d (Ok w) (Ok ds) scales e whole few shallow = IsInfo-from d w ds scales (whole w refl) (few ds refl) e shallow
-all_made d (Ok w) (Err x) scales e whole few shallow = absurd cc
-all_made d (Err x) items scales e whole few shallow = absurd cc
+    → ascends d ≡ true → info_of d ≡ Ok (record { members = d; scales = scales }) → IsInfo (record { members = d; scales = scales })
+all_made d (Ok w) (Ok ds) scales e whole few shallow ordered same = IsInfo-from d w ds scales (whole w refl) (few ds refl) e shallow ordered same
+all_made d (Ok w) (Err x) scales e whole few shallow ordered same = absurd cc
+all_made d (Err x) items scales e whole few shallow ordered same = absurd cc
+
+info_of-made : (d : Data) (scales : List Scale) → scales_of d ≡ Ok scales → info_of d ≡ Ok (record { members = d; scales = scales })
+unfolding info_of
+info_of-made d scales e = rw e refl
 
 -- the data and the scales that were read make an info
-pub scales_of-IsInfo : (d : Data) (scales : List Scale) → scales_of d ≡ Ok scales → depth d ≤ max_depth → IsInfo (record { members = d; scales = scales })
+pub scales_of-IsInfo : (d : Data) (scales : List Scale) → scales_of d ≡ Ok scales → depth d ≤ max_depth → ascends d ≡ true → IsInfo (record { members = d; scales = scales })
 unfolding scales_of
-scales_of-IsInfo d scales e shallow = all_made d (head_of d) (items_of_scales d) scales e (head_of-whole d) (items_of_scales-few d) shallow
+scales_of-IsInfo d scales e shallow ordered =
+    all_made d (head_of d) (items_of_scales d) scales e (head_of-whole d) (items_of_scales-few d) shallow ordered (info_of-made d scales e)

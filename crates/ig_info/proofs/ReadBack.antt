@@ -17,7 +17,6 @@ use Rattle.ig_info.specs.Parts.{side, triple, is_whole_triple}
 use Rattle.ig_info.specs.Scale.{scale_fits}
 use Rattle.ig_info.specs.Scales.{largest_side, triple_member, key_of, offset_of, chunk_of, encoding_of, geometry_of, scale_of}
 use Rattle.ig_info.specs.Whole.{text_member, segmentation_only, width_of, one_channel, kind_of, head_of, items_of_scales, scales_of}
-use Rattle.ig_info.specs.Info.{InfoData}
 use Rattle.ig_info.specs.Reading.{info_of, is_raw}
 use Rattle.ig_info.specs.Dest.{point_data, width_word, raw_members, dest_members, dest_data}
 
@@ -180,7 +179,3 @@ with_encoding s e =
 pub dest_read_back : (s : Scale) → is_raw s.geometry.encoding ≡ true → scale_fits s ≡ true → info_of (dest_data s) ≡ Ok (record { members = dest_data s; scales = s ∷ [] })
 dest_read_back s raw =
     subst IsReadBack (sym (with_encoding s (is_raw-Raw s.geometry.encoding raw))) (raw_read_back s.key s.resolution s.geometry.offset s.geometry.size s.geometry.chunk s.geometry.width)
-
--- the same, of an info that has these members and that scale
-pub made_read_back : (s : Scale) (i : InfoData) → i ≡ record { members = dest_data s; scales = s ∷ [] } → scale_fits s ≡ true → is_raw s.geometry.encoding ≡ true → info_of i.members ≡ Ok i
-made_read_back s i e fits raw = rw e (dest_read_back s raw fits)

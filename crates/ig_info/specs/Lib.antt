@@ -2,6 +2,7 @@ pub mod DataCode
 pub mod Answer
 pub mod Parts
 pub mod Scale
+pub mod Ascending
 pub mod Info
 pub mod Scales
 pub mod Whole

@@ -1,8 +1,7 @@
-ghost use Rattle.std.specs.Prelude.{◌≡◌, [], ◌∷◌, true, Ok, IfOk};
+ghost use Rattle.std.specs.Prelude.{◌≡◌, [], ◌∷◌, true, IfOk, OnOk};
 ghost use Rattle.serde_json.specs.View.{view as data_of};
 ghost use Rattle.ig_info.specs.Answer.{Gives};
 ghost use Rattle.ig_info.specs.Dest.{point_data, width_word, raw_members, cseg_members, scale_data, dest_members, dest_data, can_hold, dest_of};
-ghost use Rattle.ig_info.specs.Reading.{info_of, is_raw};
 ghost use Rattle.ig_info.specs.Scale.{scale_fits};
 
 use crate::refusal::supported_if;
@@ -104,8 +103,7 @@ fn can_write(encoding: Encoding, width: Width) -> bool
 /// The info with this scale alone.
 fn one_scale(alloc: Global, scale: &Scale) -> Result<Info, AllocError>
     requires { scale_fits scale.now ≡ true }
-    ensures info { IfOk result (λ info. info ≡ record { members = dest_data scale.now; scales = scale.now ∷ [] }) }
-    ensures reads_back { IfOk result (λ info. is_raw scale.now.geometry.encoding ≡ true → info_of info.members ≡ Ok info) }
+    ensures { IfOk result (λ info. info ≡ record { members = dest_data scale.now; scales = scale.now ∷ [] }) }
 {
     let members = dest_value(alloc, scale.geometry.width, scale_value(alloc, scale)?)?;
     let mut scales = List::new(alloc);
@@ -118,7 +116,7 @@ fn one_scale(alloc: Global, scale: &Scale) -> Result<Info, AllocError>
 #[tactic(auto, unfolding(crate::specs::Dest::dest_of))]
 pub fn dest_info(alloc: Global, scale: &Scale) -> Result<Info, InfoError>
     ensures value { Gives (λ i. i) result (dest_of scale.now) }
-    ensures reads_back { IfOk result (λ info. is_raw scale.now.geometry.encoding ≡ true → info_of info.members ≡ Ok info) }
+    ensures fits { OnOk result (scale_fits scale.now ≡ true) }
 {
     let geometry = scale.geometry;
     let writes = can_write(geometry.encoding, geometry.width);

@@ -1,9 +1,10 @@
-ghost use Rattle.std.specs.Prelude.{◌≡◌, ◌≤◌, ◌<◌, length, slice_get, true, IfOk, IfSome};
+ghost use Rattle.std.specs.Prelude.{◌≡◌, ◌≤◌, ◌<◌, length, slice_get, true, Ok, IfOk, IfSome};
 ghost use Rattle.std.specs.Option.{option_copied};
 ghost use Rattle.std.specs.List.{list_all};
 ghost use Rattle.serde_json.specs.Written.{compact_text};
 ghost use Rattle.ig_info.specs.Scale.{scale_fits};
-ghost use Rattle.ig_info.specs.Reading.{info_in, info_of};
+ghost use Rattle.ig_info.specs.Ascending.{ascends};
+ghost use Rattle.ig_info.specs.Reading.{can_be_read, info_in};
 
 use crate::Scale;
 use ig_space::{Bytes, List, TryClone};
@@ -22,7 +23,8 @@ impl Model for Info {
     ghost use Rattle.serde_json.specs.View.{view as data_of};
     ghost use Rattle.std.specs.Coded.{codes};
     ghost use Rattle.ig_info.specs.DataCode.{data_code};
-    ghost use Rattle.ig_info.specs.Info.{InfoData, IsInfo};
+    ghost use Rattle.ig_info.specs.Info.{InfoData};
+    ghost use Rattle.ig_info.specs.Reading.{IsInfo};
 
     ghost Value = { InfoData };
 
@@ -35,7 +37,7 @@ impl Model for Info {
 
 impl Info {
     ghost use Rattle.serde_json.specs.View.{view as data_of};
-    ghost use Rattle.ig_info.specs.Info.{IsInfo};
+    ghost use Rattle.ig_info.specs.Reading.{IsInfo};
 
     /// The info with these members, which give these scales.
     pub(crate) fn of_members(members: Value, scales: List<Scale>) -> Self
@@ -83,7 +85,8 @@ impl TryClone for Info {
 /// The text of an info: its members in the order of their names, with no blank and no line end.
 pub fn write_info(alloc: Global, info: &Info) -> Result<Bytes, AllocError>
     ensures text { IfOk result (λ bytes. bytes ≡ compact_text info.now.members) }
-    ensures reads_back { IfOk result (λ bytes. info_in bytes ≡ info_of info.now.members) }
+    ensures ordered { ascends info.now.members ≡ true }
+    ensures reads_back { IfOk result (λ bytes. list_all can_be_read info.now.scales ≡ true → info_in bytes ≡ Ok info.now) }
 {
     let text = info.members.to_string(alloc)?;
     Ok(Bytes::from_vec(text.into_bytes()))

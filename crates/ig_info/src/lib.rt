@@ -3,8 +3,6 @@
 //! scale that this tool handles is refused here, and nowhere later.
 #![tactic(auto)]
 
-#[cfg(test)]
-mod causes;
 mod dest;
 mod error;
 mod floats;
@@ -16,6 +14,8 @@ mod read_kind;
 mod read_scale;
 mod read_scales;
 mod refusal;
+#[cfg(test)]
+mod refusals;
 mod scale;
 #[cfg(test)]
 mod tests;

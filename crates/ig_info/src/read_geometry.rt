@@ -1,7 +1,6 @@
-ghost use Rattle.std.specs.Prelude.{◌≡◌, ◌^◌, codes, option_map};
+ghost use Rattle.std.specs.Prelude.{◌≡◌, ◌^◌, codes};
 ghost use Rattle.serde_json.specs.View.{view, items_view};
 ghost use Rattle.serde_json.specs.Find.{get};
-ghost use Rattle.ig_space.specs.Geometry.{ends_within as ends_in_space};
 ghost use Rattle.ig_info.specs.Answer.{Gives};
 ghost use Rattle.ig_info.specs.Parts.{all_triples};
 ghost use Rattle.ig_info.specs.Scales.{placed as placed_point, offset_in, offset_of, first_chunk, chunk_of, encoding_of, is_absent_or_null, geometry_of, largest_side};
@@ -11,27 +10,12 @@ use crate::parts::{are_three_whole, point_within};
 use crate::refusal::{
     found, scale_error, scale_formed_if, supported, supported_if, unsupported_error,
 };
-use ig_space::{Encoding, Geometry, Point, Width};
+use ig_space::{Encoding, Geometry, LARGEST_PLACE, Point, Width, ends_within};
 use serde_json::Value;
 use std::alloc::Global;
 
-/// No coordinate is above this, in voxels.
-pub(crate) const LARGEST_PLACE: u64 = 1 << 40;
-
 /// No side of a chunk is longer, in voxels.
 const LARGEST_SIDE: u64 = 1 << 24;
-
-/// Whether a scale of this size ends within the largest place.
-fn ends_within(offset: Point, size: Point) -> bool
-    ensures { result ≡ ends_in_space offset size }
-{
-    offset.x <= LARGEST_PLACE
-        && offset.y <= LARGEST_PLACE
-        && offset.z <= LARGEST_PLACE
-        && size.x <= LARGEST_PLACE - offset.x
-        && size.y <= LARGEST_PLACE - offset.y
-        && size.z <= LARGEST_PLACE - offset.z
-}
 
 /// The offset, where a scale of this size ends within the largest place.
 fn placed(size: Point, offset: Point) -> Option<Point>

@@ -5,11 +5,11 @@ ghost use Rattle.ig_info.specs.Answer.{Gives};
 ghost use Rattle.ig_info.specs.Scales.{triple_member, short_path, has_key, key_of, scale_of};
 
 use crate::parts::point_within;
-use crate::read_geometry::{LARGEST_PLACE, read_geometry};
+use crate::read_geometry::read_geometry;
 use crate::refusal::{found, supported_if};
 use crate::scale::{COARSEST, LONGEST_KEY};
 use crate::{InfoError, Scale};
-use ig_space::{List, Path, Point, Width};
+use ig_space::{LARGEST_PLACE, List, Path, Point, Width};
 use serde_json::Value;
 use std::alloc::Global;
 

@@ -53,14 +53,6 @@ fn is_voxel(info: &Info) -> bool {
     }
 }
 
-/// What is answered of this text: the cause, or nothing where it is read.
-fn cause(alloc: Global, text: &str) -> Result<String, AllocError> {
-    match read_info(alloc, text.as_bytes()) {
-        Ok(_) => String::from_str(alloc, ""),
-        Err(error) => error.to_string(alloc),
-    }
-}
-
 #[test]
 fn an_info_is_read_and_its_scale_written(rt: HostRuntime) -> Result<(), Fail> {
     let alloc = rt.alloc();
@@ -87,26 +79,6 @@ fn other_members_are_kept(rt: HostRuntime) -> Result<(), Fail> {
     let info = read_info(alloc, text.as_bytes())?;
     let written = write_info(alloc, &info)?;
     assert_eq!(rt; written.as_bytes(), want.as_bytes());
-    Ok(())
-}
-
-#[test]
-fn what_is_no_json_is_told_from_what_is_not_handled(rt: HostRuntime) -> Result<(), Fail> {
-    let alloc = rt.alloc();
-    assert!(rt; matches!(read_info(alloc, b"\xff"), Err(InfoError::NotJson)));
-    assert_eq!(rt; cause(alloc, "{")?.as_str(), "not a JSON text");
-    let info = "`info` is not supported";
-    assert_eq!(rt; cause(alloc, "[]")?.as_str(), info);
-    assert_eq!(rt; cause(alloc, "{}")?.as_str(), info);
-    let narrow =
-        "{\"data_type\":\"uint32\",\"num_channels\":1,\"scales\":[{\"chunk_sizes\":[[1,1,1]],\"encoding\":\"raw\",\"key\":\"8_8_8\",\"resolution\":[8,8,8],\"size\":[1,1,1]}],\"type\":\"segmentation\"}";
-    assert_eq!(rt; cause(alloc, narrow)?.as_str(), info);
-    let long =
-        "{\"data_type\":\"uint64\",\"num_channels\":1,\"scales\":[{\"chunk_sizes\":[[1,1,1]],\"encoding\":\"raw\",\"key\":\"8_8_8\",\"resolution\":[8,8,8],\"size\":[1,1,2]}],\"type\":\"segmentation\"}";
-    assert_eq!(rt; cause(alloc, long)?.as_str(), info);
-    let two =
-        "{\"data_type\":\"uint64\",\"num_channels\":1,\"scales\":[{\"chunk_sizes\":[[1,1,1]],\"encoding\":\"raw\",\"key\":\"8_8_8\",\"resolution\":[8,8,8],\"size\":[1,1,1]},{\"chunk_sizes\":[[1,1,1]],\"encoding\":\"raw\",\"key\":\"16_16_16\",\"resolution\":[16,16,16],\"size\":[1,1,1]}],\"type\":\"segmentation\"}";
-    assert_eq!(rt; cause(alloc, two)?.as_str(), info);
     Ok(())
 }
 
@@ -152,5 +124,32 @@ fn a_layer_whose_scale_does_not_fit_is_refused(rt: HostRuntime) -> Result<(), Fa
     let want =
         "{\"@type\":\"neuroglancer_multiscale_volume\",\"data_type\":\"uint32\",\"num_channels\":1,\"scales\":[{\"chunk_sizes\":[[1,1,1]],\"compressed_segmentation_block_size\":[8,8,8],\"encoding\":\"compressed_segmentation\",\"key\":\"8_8_8\",\"resolution\":[8,8,8],\"size\":[1,1,1],\"voxel_offset\":[0,0,0]}],\"type\":\"segmentation\"}";
     assert_eq!(rt; text.as_bytes(), want.as_bytes());
+    Ok(())
+}
+
+#[test]
+fn scales_are_read_in_order(rt: HostRuntime) -> Result<(), Fail> {
+    let alloc = rt.alloc();
+    let text =
+        "{\"type\":\"segmentation\",\"num_channels\":1,\"data_type\":\"uint16\",\"scales\":[{\"size\":[5,3,2],\"resolution\":[8,8,40],\"voxel_offset\":[10,20,30],\"key\":\"8_8_40\",\"encoding\":\"raw\",\"chunk_sizes\":[[4,2,2],[1,1,1]]},{\"size\":[3,2,2],\"resolution\":[16,16,40],\"key\":\"16_16_40\",\"encoding\":\"raw\",\"chunk_sizes\":[[64,64,64]]}]}";
+    let info = read_info(alloc, text.as_bytes())?;
+    assert_eq!(rt; info.count(), 2);
+    let first = info.scale(0).ok_or("no scale")?;
+    assert_eq!(rt;
+        first.geometry.offset,
+        Point {
+            x: 10,
+            y: 20,
+            z: 30
+        }
+    );
+    assert_eq!(rt; first.geometry.size, Point { x: 5, y: 3, z: 2 });
+    assert_eq!(rt; first.geometry.chunk, Point { x: 4, y: 2, z: 2 });
+    assert_eq!(rt; first.geometry.width, Width::W16);
+    let second = info.scale(1).ok_or("no scale")?;
+    assert_eq!(rt; second.key.as_str(), "16_16_40");
+    assert_eq!(rt; second.geometry.offset, cube(0));
+    assert_eq!(rt; second.geometry.chunk, cube(64));
+    assert!(rt; info.scale(2).is_none());
     Ok(())
 }
