@@ -1,0 +1,11 @@
+pub mod Rows
+pub mod Laying
+pub mod Places
+pub mod Pasting
+pub mod Moved
+pub mod Chunks
+pub mod FirstFault
+pub mod Assembling
+pub mod Gathering
+pub mod Parts
+pub mod Cutting

@@ -1,0 +1,33 @@
+use ig_space::Path;
+use std::alloc::AllocError;
+use thiserror::Error;
+
+/// Why bytes are not the text of a chunk.
+#[derive(Clone, Copy, Debug, PartialEq, Eq, Error)]
+pub enum Cause {
+    /// They are not as many as those of the chunk.
+    #[error("{got} bytes, not {want}")]
+    Length { got: u64, want: u64 },
+}
+
+/// Why a box has no labels.
+#[derive(Debug, Drop, Error)]
+pub enum CutError {
+    #[error("`{}` is missing", .path.as_str())]
+    Missing { path: Path },
+    #[error("`{}` is malformed: {cause}", .path.as_str())]
+    Malformed { path: Path, cause: Cause },
+    #[error("out of memory")]
+    Memory,
+}
+
+impl From<AllocError> for CutError {
+    ghost use Rattle.std.specs.Prelude.{◌≡◌};
+    ghost use Rattle.ig_cutout.specs.declared.error.CutError.TheVariants as errors;
+
+    ghost from_gives = { λ e result. result ≡ errors.Memory };
+
+    fn from(_error: AllocError) -> CutError {
+        CutError::Memory
+    }
+}

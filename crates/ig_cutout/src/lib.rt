@@ -1,0 +1,21 @@
+//! Boxes of labels from the files of chunks, and back: `assemble` makes the labels of a box from what was found of the
+//! chunks that meet it, and `cut_chunks` makes the chunks of a box from its labels.
+//!
+//! Rows go straight from the bytes of an input into the labels of the box, and from there into the bytes of an output.
+#![tactic(auto)]
+
+mod area;
+mod cut;
+mod error;
+mod layout;
+mod paste;
+mod read;
+#[cfg(test)]
+mod tests;
+mod types;
+mod write;
+
+pub use cut::cut_chunks;
+pub use error::{Cause, CutError};
+pub use paste::assemble;
+pub use types::{Input, Inputs, Output, Outputs};
