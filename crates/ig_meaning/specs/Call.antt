@@ -1,10 +1,12 @@
 -- What a call did, by its words, its status, and the log at its entry and its exit.
-use Rattle.std.specs.Prelude.{◌≡◌, ℕ, List, [], ◌∷◌, ◌++◌, Some}
+use Rattle.std.specs.Prelude.{◌≡◌, ℕ, List, [], ◌∷◌, ◌++◌, Some, None}
 use Rattle.ig_defs.specs.Files.{Files, file_at}
 use Rattle.ig_defs.specs.Log.{Log, IsQuiet, files_of}
+use Rattle.ig_defs.specs.Names.{Stands}
 use Rattle.ig_defs.specs.Own.{File, Moment, moments_since, put_all, puts_of, reads_of}
+use Rattle.ig_space.specs.declared.place.Place.{Place}
 use Rattle.ig_meaning.specs.Refusal.{Refusal}
-use Rattle.ig_meaning.specs.Stage.{Stage, info_files, planned_puts, planned_reads, sequential, wanted_files}
+use Rattle.ig_meaning.specs.Stage.{Stage, info_files, planned_puts, planned_reads, sequential, unfit, wanted_files}
 use Rattle.ig_meaning.specs.Plan.{stage_of}
 use Rattle.ig_meaning.specs.Fault.{Making, Refused, Unfinished, Planned, fault_of, making_of}
 use Rattle.ig_meaning.specs.Ending.{AreFirst}
@@ -27,6 +29,22 @@ pub record IsSequential (words : List (List ℕ)) (old new : Log) : Type 0 where
   pub made : making_of words (moments_since old new) ≡ Planned stage after
   pub files : sequential stage (put_all (files_of old) (info_files stage.info)) ≡ Some (files_of new)
   pub reads : reads_of after ≡ planned_reads stage
+
+-- no file lies directly in the directory of any of these
+abbrev pub AllEmpty : Files → List Place → Type 0
+AllEmpty files [] = Unit {0}
+AllEmpty files (dest ∷ dests) = ((name : List ℕ) → Stands files dest.dir name → ⊥) × AllEmpty files dests
+
+-- Nothing keeps the command of these words from running in these files: its stage is planned, its info and its output
+-- directories are free, it fits, and its sequential run is defined.
+pub record IsReady (words : List (List ℕ)) (files : Files) : Type 0 where
+  pub stage : Stage
+  pub planned : stage_of words files ≡ Some stage
+  pub no_info : (info : File) → stage.info ≡ Some info → file_at files info.path ≡ None
+  pub no_names : AllEmpty files stage.dests
+  pub fits : unfit stage ≡ None
+  pub after : Files
+  pub runs : sequential stage (put_all files (info_files stage.info)) ≡ Some after
 
 -- each own step only looks
 abbrev pub AllLook : List Moment → Type 0

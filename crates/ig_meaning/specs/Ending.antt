@@ -31,11 +31,11 @@ AreAsFar (Refuses refusal) xs all = xs ≡ all
 AreAsFar StoreFailed xs all = AreFirst xs all
 AreAsFar NoMemory xs all = AreFirst xs all
 
--- The wanted files of the stage, in these files, were put after its info.
+-- With these puts the files are what they are with the stage's info and then each wanted file.
 pub record PutsWanted (s : Stage) (files : Files) (puts : List File) : Type 0 where
   pub outputs : List File
   pub wanted : wanted_files s (file_at files) ≡ Some outputs
-  pub put : puts ≡ info_files s.info ++ outputs
+  pub put : put_all files puts ≡ put_all files (info_files s.info ++ outputs)
 
 abbrev pub IfFinished : Ending → Type 0 → Type 0
 IfFinished Finished P = P
@@ -43,10 +43,17 @@ IfFinished (Refuses refusal) P = Unit {0}
 IfFinished StoreFailed P = Unit {0}
 IfFinished NoMemory P = Unit {0}
 
+abbrev pub IfRefused : Ending → Type 0 → Type 0
+IfRefused Finished P = Unit {0}
+IfRefused (Refuses refusal) P = P
+IfRefused StoreFailed P = Unit {0}
+IfRefused NoMemory P = Unit {0}
+
 -- The own steps of a run of the stage on these files, which ended so.
 pub record HasRun (s : Stage) (files : Files) (ms : List Moment) (ending : Ending) : Type 0 where
   pub fault : IsFaultOf ending (fault_of_run s ms)
   pub puts : AreAsFar ending (puts_of ms) (planned_puts s files)
   pub reads : IfFinished ending (reads_of ms ≡ planned_reads s)
   pub wanted : IfFinished ending (PutsWanted s files (puts_of ms))
+  pub refused : IfRefused ending (sequential s (put_all files (info_files s.info)) ≡ None)
   pub sequential : IfFinished ending (sequential s (put_all files (info_files s.info)) ≡ Some (put_all files (puts_of ms)))

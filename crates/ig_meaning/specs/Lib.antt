@@ -1,8 +1,15 @@
 pub mod Refusal
 pub mod Stage
+pub mod Options
 pub mod Words
+pub mod Copies
+pub mod Made
+pub mod Sequential
 pub mod Plan
 pub mod Fault
 pub mod Lines
 pub mod Ending
 pub mod Call
+pub mod Tasks
+pub mod TaskBoxes
+pub mod RefusedTasks

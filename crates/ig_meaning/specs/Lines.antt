@@ -1,9 +1,10 @@
 -- What a command prints.
-use Rattle.std.specs.Prelude.{ℕ, List, [], ◌∷◌, ◌++◌, codes}
+use Rattle.std.specs.Prelude.{ℕ, zero, suc, List, [], ◌∷◌, ◌++◌, codes}
 use Rattle.std.specs.Fmt.{decimal}
 use Rattle.ig_info.specs.declared.error.InfoError.{InfoError}
 use Rattle.ig_info.specs.declared.error.InfoError.TheVariants.{NotJson, Member, Unsupported, Memory}
-use Rattle.ig_meaning.specs.Refusal.{Cause, WrongLength, Refusal, Missing, BadInfo, NotEmpty, Malformed}
+use Rattle.ig_layer.specs.Faults.{Cause, WrongLength}
+use Rattle.ig_meaning.specs.Refusal.{Refusal, Missing, BadInfo, NoScale, NotEmpty, ShapeUnfit, TooManyTasks, TaskTooLarge, Malformed}
 use Rattle.ig_meaning.specs.Stage.{Kind, Xfer, Stage, task_count}
 
 -- the text and a line end
@@ -33,10 +34,19 @@ info_cause Memory = codes "out of memory"
 abbrev pub cause_text : Cause → List ℕ
 cause_text (WrongLength got want) = spaced (codes "wrong length") (spaced (decimal got) (spaced (codes "want") (decimal want)))
 
+abbrev pub axis_text : ℕ → List ℕ
+axis_text zero = codes "x"
+axis_text (suc zero) = codes "y"
+axis_text (suc (suc axis)) = codes "z"
+
 abbrev pub refusal_text : Refusal → List ℕ
 refusal_text (Missing path) = spaced (codes "missing") path
 refusal_text (BadInfo path cause) = spaced (codes "malformed") (spaced path (info_cause cause))
+refusal_text (NoScale mip count) = spaced (codes "no scale") (spaced (decimal mip) (spaced (codes "of") (decimal count)))
 refusal_text (NotEmpty path) = spaced (codes "not empty") path
+refusal_text (ShapeUnfit axis) = spaced (codes "shape does not fit axis") (axis_text axis)
+refusal_text (TooManyTasks count) = spaced (codes "too many tasks") (decimal count)
+refusal_text (TaskTooLarge voxels) = spaced (codes "task too large") (decimal voxels)
 refusal_text (Malformed path cause) = spaced (codes "malformed") (spaced path (cause_text cause))
 
 -- on standard error, for the fault with which a command ends

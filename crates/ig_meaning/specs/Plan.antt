@@ -1,20 +1,19 @@
 -- The stage that a command plans, from the info of its source layer.
-use Rattle.std.specs.Prelude.{◌*◌, ℕ, List, [], ◌∷◌, Option, None, Some, Result, Ok, Err, slice_get, codes}
+use Rattle.std.specs.Prelude.{◌*◌, ℕ, List, [], ◌∷◌, length, Option, None, Some, Result, Ok, Err, slice_get, unwrap_or, codes}
 use Rattle.std.specs.Result.{result_ok}
 use Rattle.ig_space.specs.declared.point.Point.{Point}
 use Rattle.ig_space.specs.declared.place.Place.{Place}
 use Rattle.ig_space.specs.Path.{joined}
 use Rattle.ig_info.specs.declared.error.InfoError.{InfoError}
-use Rattle.ig_info.specs.declared.error.InfoError.TheVariants.{Unsupported}
 use Rattle.ig_info.specs.declared.scale.Scale.{Scale}
 use Rattle.ig_info.specs.Info.{InfoData}
 use Rattle.ig_info.specs.Dest.{dest_of}
-use Rattle.ig_info.specs.Reading.{plain_info_in}
+use Rattle.ig_info.specs.Reading.{info_in}
 use Rattle.serde_json.specs.Written.{compact_text}
 use Rattle.ig_defs.specs.Files.{Files, file_at}
-use Rattle.ig_meaning.specs.Refusal.{Refusal, BadInfo}
+use Rattle.ig_meaning.specs.Refusal.{Refusal, BadInfo, NoScale}
 use Rattle.ig_meaning.specs.Stage.{Stage, Xfer}
-use Rattle.ig_meaning.specs.Words.{Command, Copy, command_of}
+use Rattle.ig_meaning.specs.Words.{Command, Copy, Request, command_of}
 
 -- the info file of a layer
 abbrev pub info_path : List ℕ → List ℕ
@@ -28,40 +27,52 @@ place_in layer scale = record { dir = joined layer scale.key; geometry = scale.g
 abbrev pub twice : Point → Point
 twice p = record { x = 2 * p.x; y = 2 * p.y; z = 2 * p.z }
 
--- the copy of a scale into a new layer that has this info
-abbrev pub copy_stage : List ℕ → List ℕ → Scale → InfoData → Stage
-copy_stage source dest scale info = record {
-  kind = Xfer;
-  source = place_in source scale;
-  dests = place_in dest scale ∷ [];
-  shape = twice scale.geometry.chunk;
-  info = Some (record { path = info_path dest; bytes = compact_text info.members });
+-- the same scale in chunks of this size
+abbrev pub in_chunks : Point → Scale → Scale
+in_chunks chunk s = record {
+  key = s.key;
+  resolution = s.resolution;
+  geometry = record { offset = s.geometry.offset; size = s.geometry.size; chunk = chunk; width = s.geometry.width; encoding = s.geometry.encoding };
 }
 
-abbrev pub with_dest : List ℕ → List ℕ → Scale → Result InfoData InfoError → Result Stage Refusal
-with_dest source dest scale (Ok info) = Ok (copy_stage source dest scale info)
-with_dest source dest scale (Err cause) = Err (BadInfo (info_path dest) cause)
+-- the scale of the new layer: that of the source, in the chunks that are asked for
+abbrev pub new_scale : Request → Scale → Scale
+new_scale request s = in_chunks (unwrap_or request.chunk s.geometry.chunk) s
 
--- the first scale; an info has one
-abbrev pub with_scale : List ℕ → List ℕ → Option Scale → Result Stage Refusal
-with_scale source dest (Some scale) = with_dest source dest scale (dest_of scale)
-with_scale source dest None = Err (BadInfo (info_path source) (Unsupported (codes "scales")))
+-- the copy of a scale into a new layer that has this scale and this info; a task's box is twice a new chunk on each axis
+-- where no shape is asked for
+abbrev pub copy_stage : Request → Scale → Scale → InfoData → Stage
+copy_stage request scale new info = record {
+  kind = Xfer;
+  source = place_in request.source scale;
+  dests = place_in request.dest new ∷ [];
+  shape = unwrap_or request.shape (twice new.geometry.chunk);
+  info = Some (record { path = info_path request.dest; bytes = compact_text info.members });
+}
 
-abbrev pub with_info : List ℕ → List ℕ → Result InfoData InfoError → Result Stage Refusal
-with_info source dest (Ok info) = with_scale source dest (slice_get info.scales 0)
-with_info source dest (Err cause) = Err (BadInfo (info_path source) cause)
+abbrev pub with_dest : Request → Scale → Scale → Result InfoData InfoError → Result Stage Refusal
+with_dest request scale new (Ok info) = Ok (copy_stage request scale new info)
+with_dest request scale new (Err cause) = Err (BadInfo (info_path request.dest) cause)
 
--- the stage of a copy, by the bytes of the source's info, or the refusal of that info or the new one
-unfoldable pub planned : List ℕ → List ℕ → List ℕ → Result Stage Refusal
-planned source dest bytes = with_info source dest (plain_info_in bytes)
+abbrev pub with_scale : Request → InfoData → Option Scale → Result Stage Refusal
+with_scale request info (Some scale) = with_dest request scale (new_scale request scale) (dest_of (new_scale request scale))
+with_scale request info None = Err (NoScale request.mip (length info.scales))
 
-abbrev pub stage_of_found : List ℕ → List ℕ → Option (List ℕ) → Option Stage
-stage_of_found source dest None = None
-stage_of_found source dest (Some bytes) = result_ok (planned source dest bytes)
+abbrev pub with_info : Request → Result InfoData InfoError → Result Stage Refusal
+with_info request (Ok info) = with_scale request info (slice_get info.scales request.mip)
+with_info request (Err cause) = Err (BadInfo (info_path request.source) cause)
+
+-- the stage of a copy, by the bytes of the source's info, or the refusal of that info, of the scale or of the new info
+unfoldable pub planned : Request → List ℕ → Result Stage Refusal
+planned request bytes = with_info request (info_in bytes)
+
+abbrev pub stage_of_found : Request → Option (List ℕ) → Option Stage
+stage_of_found request None = None
+stage_of_found request (Some bytes) = result_ok (planned request bytes)
 
 abbrev pub stage_of_command : Option Command → Files → Option Stage
 stage_of_command None files = None
-stage_of_command (Some (Copy source dest)) files = stage_of_found source dest (file_at files (info_path source))
+stage_of_command (Some (Copy request)) files = stage_of_found request (file_at files (info_path request.source))
 
 -- the stage of a call with these words, by the files at its entry
 abbrev pub stage_of : List (List ℕ) → Files → Option Stage

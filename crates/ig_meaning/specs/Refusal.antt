@@ -1,13 +1,19 @@
 -- What a command may refuse, each with the file or the number that shows it.
 use Rattle.std.specs.Prelude.{ℕ, List}
 use Rattle.ig_info.specs.declared.error.InfoError.{InfoError}
-
--- what is wrong with the text of a chunk
-pub data Cause : Type 0 where
-  WrongLength : (got want : ℕ) → Cause
+use Rattle.ig_layer.specs.Faults.{Cause, Fault, Absent, Damaged}
 
 pub data Refusal : Type 0 where
   Missing : (path : List ℕ) → Refusal
   BadInfo : (path : List ℕ) → (cause : InfoError) → Refusal
+  NoScale : (mip count : ℕ) → Refusal
   NotEmpty : (path : List ℕ) → Refusal
+  ShapeUnfit : (axis : ℕ) → Refusal
+  TooManyTasks : (count : ℕ) → Refusal
+  TaskTooLarge : (voxels : ℕ) → Refusal
   Malformed : (path : List ℕ) → (cause : Cause) → Refusal
+
+-- what is wrong with a chunk, as a refusal
+abbrev pub refusal_of : Fault → Refusal
+refusal_of (Absent path) = Missing path
+refusal_of (Damaged path cause) = Malformed path cause

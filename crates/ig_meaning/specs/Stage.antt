@@ -1,19 +1,19 @@
 -- Stages: what a command makes of a layer, cut into tasks over a grid, and the files that are wanted of it.
-use Rattle.std.specs.Prelude.{ℕ, zero, suc, ◌==◌, if◌then◌else◌, List, [], ◌∷◌, ◌++◌, length, Option, None, Some, option_map}
+use Rattle.std.specs.Prelude.{ℕ, zero, suc, ◌==◌, ◌%◌, ◌^◌, nat_le, max, if◌then◌else◌, List, [], ◌∷◌, ◌++◌, Option, None, Some, option_map}
 use Rattle.ig_space.specs.declared.point.Point.{Point}
 use Rattle.ig_space.specs.declared.point.Box3.{Box3}
 use Rattle.ig_space.specs.declared.geometry.Grid.{Grid}
-use Rattle.ig_space.specs.declared.geometry.Width.{Width}
-use Rattle.ig_space.specs.declared.geometry.Encoding.{Encoding}
-use Rattle.ig_space.specs.declared.geometry.Encoding.TheVariants.{Raw, Cseg}
 use Rattle.ig_space.specs.declared.place.Place.{Place}
 use Rattle.ig_space.specs.Chunk.{chunk_path}
 use Rattle.ig_space.specs.Grid.{cell, cell_count, chunks_of, hull, size_of, space_of}
+use Rattle.ig_space.specs.Geometry.{count}
 use Rattle.ig_defs.specs.Files.{Files, file_at}
 use Rattle.ig_defs.specs.Own.{File, put_all}
-use Rattle.ig_layer.specs.Layer.{raw_len, volume_at}
-use Rattle.ig_layer.specs.Texts.{chunks_in, files_in, layer_files, listed}
-use Rattle.ig_meaning.specs.Refusal.{Cause, WrongLength, Refusal, Missing, Malformed}
+use Rattle.ig_layer.specs.Layer.{volume_at}
+use Rattle.ig_layer.specs.Faults.{chunk_at, first_fault, first_of, or_else}
+use Rattle.ig_space.specs.Chunks.{chunks_in, listed}
+use Rattle.ig_layer.specs.Texts.{files_in, layer_files}
+use Rattle.ig_meaning.specs.Refusal.{Refusal, Missing, ShapeUnfit, TooManyTasks, TaskTooLarge, refusal_of}
 
 -- what a stage does: copy a scale into a new layer
 pub data Kind : Type 0 where
@@ -54,6 +54,46 @@ task_count s = cell_count (task_grid s)
 abbrev pub task_box : Stage → ℕ → Box3
 task_box s k = cell (task_grid s) k
 
+-- ---- which stages can be run
+-- a shape is a multiple of this
+abbrev pub shape_unit : Kind → Place → List Place → Point
+shape_unit Xfer source [] = source.geometry.chunk
+shape_unit Xfer source (dest ∷ dests) = dest.geometry.chunk
+
+-- the first axis on which the shape is no multiple
+abbrev pub unfit_axis : Point → Point → Option ℕ
+unfit_axis unit shape =
+    if shape.x % unit.x == 0 then (if shape.y % unit.y == 0 then (if shape.z % unit.z == 0 then None else Some 2) else Some 1) else Some 0
+
+-- the greatest of the values at 0, 1, .. below n
+abbrev pub greatest : (ℕ → ℕ) → ℕ → ℕ
+greatest f zero = 0
+greatest f (suc n) = max (greatest f n) (f n)
+
+-- how many voxels the chunks that meet a task's box have, as a box of whole chunks
+abbrev pub hull_voxels : Stage → ℕ → ℕ
+hull_voxels s k = count (size_of (hull (chunks_of s.source.geometry) (task_box s k)).space)
+
+abbrev pub most_tasks : ℕ
+most_tasks = 1000000
+
+abbrev pub most_voxels : ℕ
+most_voxels = 2 ^ 24
+
+-- why a stage is not run: its shape, else its number of tasks, else its greatest task
+abbrev pub unfit_shape : Stage → Option Refusal
+unfit_shape s = option_map ShapeUnfit (unfit_axis (shape_unit s.kind s.source s.dests) s.shape)
+
+abbrev pub too_many_tasks : Stage → Option Refusal
+too_many_tasks s = if nat_le (task_count s) most_tasks then None else Some (TooManyTasks (task_count s))
+
+abbrev pub too_large_task : Stage → Option Refusal
+too_large_task s = if nat_le (greatest (hull_voxels s) (task_count s)) most_voxels then None else Some (TaskTooLarge (greatest (hull_voxels s) (task_count s)))
+
+abbrev pub unfit : Stage → Option Refusal
+unfit s = or_else (unfit_shape s) (or_else (too_many_tasks s) (too_large_task s))
+
+-- ---- what a task reads and makes
 -- the paths that a task reads, in order
 abbrev pub inputs_of : Stage → ℕ → List (List ℕ)
 inputs_of s k = chunks_in s.source (task_box s k)
@@ -67,30 +107,9 @@ abbrev pub task_files : Stage → ℕ → (List ℕ → Option (List ℕ)) → O
 task_files s k given = files_of_dests s.dests (wanted_volume s.kind (volume_at given s.source)) (task_box s k)
 
 -- ---- why a task refuses
-abbrev pub or_else : {A : Type 0} → Option A → Option A → Option A
-or_else (Some x) other = Some x
-or_else None other = other
-
--- the first that is there of the values at 0, 1, .. below n
-abbrev pub first_of : {A : Type 0} → (ℕ → Option A) → ℕ → Option A
-first_of f zero = None
-first_of f (suc n) = or_else (first_of f n) (f n)
-
-abbrev pub cause_in : Encoding → Width → Point → List ℕ → Option Cause
-cause_in Raw width size bytes = if length bytes == raw_len width size then None else Some (WrongLength (length bytes) (raw_len width size))
-cause_in (Cseg block) width size bytes = None
-
-abbrev pub missing_in : List ℕ → Option (List ℕ) → Option Refusal
-missing_in path None = Some (Missing path)
-missing_in path (Some bytes) = None
-
-abbrev pub malformed_in : Place → Box3 → List ℕ → Option (List ℕ) → Option Refusal
-malformed_in place chunk path None = None
-malformed_in place chunk path (Some bytes) = option_map (λ cause. Malformed path cause) (cause_in place.geometry.encoding place.geometry.width (size_of chunk) bytes)
-
--- the chunk with this number among those that meet the task's box
+-- the chunk with this number among those that meet the task's box, and its path
 abbrev pub input_box : Stage → ℕ → ℕ → Box3
-input_box s k i = cell (hull (chunks_of s.source.geometry) (task_box s k)) i
+input_box s k i = chunk_at s.source (task_box s k) i
 
 abbrev pub input_path : Stage → ℕ → ℕ → List ℕ
 input_path s k i = chunk_path s.source.dir (input_box s k i)
@@ -98,11 +117,18 @@ input_path s k i = chunk_path s.source.dir (input_box s k i)
 abbrev pub input_count : Stage → ℕ → ℕ
 input_count s k = cell_count (hull (chunks_of s.source.geometry) (task_box s k))
 
--- the refusal of a task: the first input that isn't there, else the first that is malformed
+-- the file is absent
+abbrev pub absent_in : List ℕ → Option (List ℕ) → Option Refusal
+absent_in path None = Some (Missing path)
+absent_in path (Some bytes) = None
+
+-- the first input that is absent
+abbrev pub first_absent : Stage → ℕ → (List ℕ → Option (List ℕ)) → Option Refusal
+first_absent s k given = first_of (λ i. absent_in (input_path s k i) (given (input_path s k i))) (input_count s k)
+
+-- the refusal of a task: the first input that is absent, else the first that is damaged
 abbrev pub task_refusal : Stage → ℕ → (List ℕ → Option (List ℕ)) → Option Refusal
-task_refusal s k given = or_else
-    (first_of (λ i. missing_in (input_path s k i) (given (input_path s k i))) (input_count s k))
-    (first_of (λ i. malformed_in s.source (input_box s k i) (input_path s k i) (given (input_path s k i))) (input_count s k))
+task_refusal s k given = or_else (first_absent s k given) (option_map refusal_of (first_fault s.source (task_box s k) given))
 
 -- ---- the sequential run: each task in order, on the files as they are then
 -- the files that stand after it, where no task refused, and what was put so far

@@ -1,0 +1,184 @@
+-- Laws on the boxes of the tasks of a copy: they lie in both layers, have whole chunks of the new one, and few voxels.
+use Rattle.std.specs.Prelude.{◌≡◌, ℕ, zero, suc, ◌==◌, ◌+◌, ◌-◌, ◌*◌, ◌/◌, ◌%◌, ◌^◌, ◌<◌, ◌≤◌, Bool, true, false, if◌then◌else◌, List, [], ◌∷◌, Option, None, Some, option_map}
+use Rattle.std.proofs.Common.{arith, ap, sym, ◌∙◌, refl, ◌⊎◌, inl, inr, subst}
+use Rattle.std.proofs.Math.Nat.{div-add-mod', div-lt_iff_lt-mul, mul-le-mul_right, mul-le-mul, mul-div_cancel}
+use Rattle.std.proofs.lemmas.Bool.{cases_lt, eqb-true, leb-true}
+use Rattle.ig_space.specs.declared.point.Point.{Point}
+use Rattle.ig_space.specs.declared.point.Box3.{Box3}
+use Rattle.ig_space.specs.declared.geometry.Grid.{Grid}
+use Rattle.ig_space.specs.declared.place.Place.{Place}
+use Rattle.ig_space.specs.Geometry.{count}
+use Rattle.ig_space.specs.Grid.{IsGrid, IsWithin, cell_of, chunks_of, counts, high_along, hull, index_along, low_along, point_at, size_of, space_of}
+use Rattle.ig_space.specs.Cells.{cell-within}
+use Rattle.ig_space.specs.CellBoxes.{chunks-IsGrid}
+use Rattle.ig_space.specs.Hulls.{IsPart, hull_high, hull_high-above, hull_low, hull_low-below, part-x, part-y, part-z}
+use Rattle.ig_defs.specs.Own.{File}
+use Rattle.ig_layer.specs.Faults.{or_else}
+use Rattle.ig_meaning.specs.Refusal.{ShapeUnfit}
+use Rattle.ig_meaning.specs.Stage.{Kind, Xfer, Stage, greatest, hull_voxels, most_tasks, most_voxels, shape_unit, task_box, task_count, task_grid, too_large_task, too_many_tasks, unfit_axis, unfit_shape}
+use Rattle.ig_meaning.specs.Copies.{IsCopy}
+
+-- ---- the grids
+pub task_grid-IsGrid : (s : Stage) (dest : Place) (info : File) → IsCopy s dest info → IsGrid (task_grid s)
+task_grid-IsGrid s dest info c =
+    let whole = chunks-IsGrid s.source.geometry c.source_fits in
+    record {
+      x_step = c.shape.0;
+      y_step = c.shape.1;
+      z_step = c.shape.2;
+      x_order = whole.x_order;
+      y_order = whole.y_order;
+      z_order = whole.z_order;
+      x_small = whole.x_small;
+      y_small = whole.y_small;
+      z_small = whole.z_small;
+    }
+
+-- both layers have one space
+pub space_of-dest : (s : Stage) (dest : Place) (info : File) → IsCopy s dest info → space_of s.source.geometry ≡ space_of dest.geometry
+space_of-dest s dest info c =
+    let space : Point → Point → Box3 = λ offset size. record { lo = offset; hi = record { x = offset.x + size.x; y = offset.y + size.y; z = offset.z + size.z } } in
+    ap (λ offset. space offset s.source.geometry.size) (sym c.offset) ∙ ap (space dest.geometry.offset) (sym c.size)
+
+pub task_box-within : (s : Stage) (dest : Place) (info : File) → IsCopy s dest info → (k : ℕ) → k < task_count s → IsWithin (task_box s k) (space_of s.source.geometry)
+task_box-within s dest info c k below = cell-within (task_grid s) (task_grid-IsGrid s dest info c) k below
+
+pub task_box-within_dest : (s : Stage) (dest : Place) (info : File) → IsCopy s dest info → (k : ℕ) → k < task_count s → IsWithin (task_box s k) (space_of dest.geometry)
+task_box-within_dest s dest info c k below = subst (IsWithin (task_box s k)) (space_of-dest s dest info c) (task_box-within s dest info c k below)
+
+-- ---- what a stage that can be run has
+or_else-none : {A : Type 0} (a b : Option A) → or_else a b ≡ None → (a ≡ None) × (b ≡ None)
+or_else-none None b none = (refl, none)
+or_else-none (Some x) b none = absurd (cc)
+
+option_map-none : {A B : Type 0} (f : A → B) (a : Option A) → option_map f a ≡ None → a ≡ None
+option_map-none f None none = refl
+option_map-none f (Some x) none = absurd (cc)
+
+abbrev axis_of : Bool → Bool → Bool → Option ℕ
+axis_of x y z = if x then (if y then (if z then None else Some 2) else Some 1) else Some 0
+
+all_whole : (x y z : Bool) → axis_of x y z ≡ None → (x ≡ true) × (y ≡ true) × (z ≡ true)
+all_whole true true true none = (refl, refl, refl)
+all_whole true true false none = absurd (cc)
+all_whole true false z none = absurd (cc)
+all_whole false y z none = absurd (cc)
+
+if_allowed : {A : Type 0} (b : Bool) (x : A) → (if b then None else Some x) ≡ None → b ≡ true
+if_allowed true x none = refl
+if_allowed false x none = absurd (cc)
+
+shape_unit-first : (kind : Kind) (source dest : Place) (dests : List Place) → shape_unit kind source (dest ∷ dests) ≡ dest.geometry.chunk
+shape_unit-first Xfer source dest dests = refl
+
+-- each side of the shape is a multiple of the chunk's
+record IsWhole (unit shape : Point) : Type 0 where
+  x : shape.x % unit.x ≡ 0
+  y : shape.y % unit.y ≡ 0
+  z : shape.z % unit.z ≡ 0
+
+unfit_axis-none : (unit shape : Point) → unfit_axis unit shape ≡ None → IsWhole unit shape
+unfit_axis-none unit shape none =
+    let all = all_whole (shape.x % unit.x == 0) (shape.y % unit.y == 0) (shape.z % unit.z == 0) none in
+    record { x = eqb-true _ _ all.0; y = eqb-true _ _ all.1; z = eqb-true _ _ all.2 }
+
+shape-whole : (s : Stage) (dest : Place) (info : File) → IsCopy s dest info → IsWhole dest.geometry.chunk s.shape
+shape-whole s dest info c =
+    let no_shape = option_map-none ShapeUnfit _ (or_else-none (unfit_shape s) _ c.fit).0 in
+    let unit : shape_unit s.kind s.source s.dests ≡ dest.geometry.chunk = ap (shape_unit s.kind s.source) c.dests ∙ shape_unit-first s.kind s.source dest [] in
+    subst (λ unit. IsWhole unit s.shape) unit (unfit_axis-none (shape_unit s.kind s.source s.dests) s.shape no_shape)
+
+pub task_count-few : (s : Stage) (dest : Place) (info : File) → IsCopy s dest info → task_count s ≤ 1000000
+task_count-few s dest info c =
+    let no_count = (or_else-none (too_many_tasks s) (too_large_task s) (or_else-none (unfit_shape s) _ c.fit).1).0 in
+    leb-true (task_count s) most_tasks (if_allowed _ _ no_count)
+
+greatest-once : (f : ℕ → ℕ) (n k : ℕ) → k < suc n → (k < n → f k ≤ greatest f n) → (k < n) ⊎ (n ≤ k) → f k ≤ greatest f (suc n)
+greatest-once f n k below before (inl less) = omega (arith, before less)
+greatest-once f n k below before (inr last) =
+    let same : f k ≡ f n = ap f (omega (arith, last, below)) in
+    omega (arith, same)
+
+greatest-above : (f : ℕ → ℕ) (n k : ℕ) → k < n → f k ≤ greatest f n
+greatest-above f zero k below = absurd (omega (arith, below))
+greatest-above f (suc n) k below = greatest-once f n k below (greatest-above f n k) (cases_lt k n)
+
+pub task_hull-few : (s : Stage) (dest : Place) (info : File) → IsCopy s dest info → (k : ℕ) → k < task_count s → hull_voxels s k ≤ 2 ^ 24
+task_hull-few s dest info c k below =
+    let no_size = (or_else-none (too_many_tasks s) (too_large_task s) (or_else-none (unfit_shape s) _ c.fit).1).1 in
+    let few : greatest (hull_voxels s) (task_count s) ≤ most_voxels = leb-true (greatest (hull_voxels s) (task_count s)) most_voxels (if_allowed _ _ no_size) in
+    omega (arith, few, greatest-above (hull_voxels s) (task_count s) k below)
+
+-- ---- one axis: steps of whole chunks
+-- a part of the side from a cell of whole chunks on begins with a chunk
+aligned-low : (lo step shape i : ℕ) → 1 ≤ step → shape % step ≡ 0 → hull_low lo step (low_along lo shape i) ≡ low_along lo shape i
+aligned-low lo step shape i some whole =
+    let rows : shape ≡ shape / step * step = omega (arith, div-add-mod' shape step, whole) in
+    let cells : lo + i * shape - lo ≡ i * (shape / step) * step = grind arith in
+    let number : index_along lo step (low_along lo shape i) ≡ i * (shape / step) = ap (λ n. n / step) cells ∙ mul-div_cancel (i * (shape / step)) some in
+    ap (low_along lo step) number ∙ grind arith
+
+-- and ends with one
+aligned-high : (lo hi step shape a i : ℕ) → shape % step ≡ 0 → IsPart lo hi step a (high_along lo hi shape i)
+    → hull_high lo hi step (high_along lo hi shape i) ≡ high_along lo hi shape i
+aligned-high lo hi step shape a i whole part =
+    let b = high_along lo hi shape i in
+    let rows : shape ≡ shape / step * step = omega (arith, div-add-mod' shape step, whole) in
+    let cells : (i + 1) * shape ≡ (i + 1) * (shape / step) * step = grind arith in
+    let above = hull_high-above lo hi step a b part in
+    let before : b - 1 - lo < (i + 1) * (shape / step) * step = omega (arith, cells, part.from, part.some) in
+    let number : index_along lo step (b - 1) < (i + 1) * (shape / step) = (div-lt_iff_lt-mul part.step_some).1 before in
+    let end : (index_along lo step (b - 1) + 1) * step ≤ (i + 1) * (shape / step) * step = mul-le-mul_right step (omega (arith, number)) in
+    omega (arith, above, end, cells)
+
+-- ---- three axes
+-- a space cut by steps of whole chunks
+cell-aligned : (space : Box3) (step shape i : Point) → IsWhole step shape → IsGrid (record { space = space; step = step })
+    → IsWithin (cell_of (record { space = space; step = shape }) i) space
+    → (hull (record { space = space; step = step }) (cell_of (record { space = space; step = shape }) i)).space ≡ cell_of (record { space = space; step = shape }) i
+cell-aligned space step shape i whole grid within =
+    let g : Grid = record { space = space; step = step } in
+    let a : Box3 = cell_of (record { space = space; step = shape }) i in
+    let lx = aligned-low space.lo.x step.x shape.x i.x grid.x_step whole.x in
+    let ly = aligned-low space.lo.y step.y shape.y i.y grid.y_step whole.y in
+    let lz = aligned-low space.lo.z step.z shape.z i.z grid.z_step whole.z in
+    let hx = aligned-high space.lo.x space.hi.x step.x shape.x a.lo.x i.x whole.x (part-x g a grid within) in
+    let hy = aligned-high space.lo.y space.hi.y step.y shape.y a.lo.y i.y whole.y (part-y g a grid within) in
+    let hz = aligned-high space.lo.z space.hi.z step.z shape.z a.lo.z i.z whole.z (part-z g a grid within) in
+    λ j. record { lo = record { x = lx j; y = ly j; z = lz j }; hi = record { x = hx j; y = hy j; z = hz j } }
+
+-- a task's box is made of whole chunks of the new layer
+pub task_box-aligned : (s : Stage) (dest : Place) (info : File) → IsCopy s dest info → (k : ℕ) → k < task_count s
+    → (hull (chunks_of dest.geometry) (task_box s k)).space ≡ task_box s k
+task_box-aligned s dest info c k below =
+    let same = space_of-dest s dest info c in
+    let step = dest.geometry.chunk in
+    let grid = subst (λ space. IsGrid (record { space = space; step = step })) (sym same) (chunks-IsGrid dest.geometry c.dest_fits) in
+    let aligned = cell-aligned (space_of s.source.geometry) step s.shape (point_at (counts (task_grid s)) k) (shape-whole s dest info c) grid (task_box-within s dest info c k below) in
+    subst (λ space. (hull (record { space = space; step = step }) (task_box s k)).space ≡ task_box s k) same aligned
+
+-- ---- few voxels
+size-few : (a b : Box3) → IsWithin a b → count (size_of a) ≤ count (size_of b)
+size-few a b h = mul-le-mul (omega (arith, h.x_from, h.x_to)) (mul-le-mul (omega (arith, h.y_from, h.y_to)) (omega (arith, h.z_from, h.z_to)))
+
+pub hull-around : (g : Grid) (a : Box3) → IsGrid g → IsWithin a g.space → IsWithin a (hull g a).space
+hull-around g a grid within = record {
+  x_from = hull_low-below g.space.lo.x g.space.hi.x g.step.x a.lo.x a.hi.x (part-x g a grid within);
+  x_some = within.x_some;
+  x_to = hull_high-above g.space.lo.x g.space.hi.x g.step.x a.lo.x a.hi.x (part-x g a grid within);
+  y_from = hull_low-below g.space.lo.y g.space.hi.y g.step.y a.lo.y a.hi.y (part-y g a grid within);
+  y_some = within.y_some;
+  y_to = hull_high-above g.space.lo.y g.space.hi.y g.step.y a.lo.y a.hi.y (part-y g a grid within);
+  z_from = hull_low-below g.space.lo.z g.space.hi.z g.step.z a.lo.z a.hi.z (part-z g a grid within);
+  z_some = within.z_some;
+  z_to = hull_high-above g.space.lo.z g.space.hi.z g.step.z a.lo.z a.hi.z (part-z g a grid within);
+}
+
+pub task_box-few : (s : Stage) (dest : Place) (info : File) → IsCopy s dest info → (k : ℕ) → k < task_count s → count (size_of (task_box s k)) ≤ 2 ^ 24
+task_box-few s dest info c k below =
+    let g = chunks_of s.source.geometry in
+    let b = task_box s k in
+    let grid = chunks-IsGrid s.source.geometry c.source_fits in
+    let around = hull-around g b grid (task_box-within s dest info c k below) in
+    let less = size-few b (hull g b).space around in
+    omega (arith, less, task_hull-few s dest info c k below)
