@@ -1,12 +1,14 @@
 -- What two parts of a call did, one after the other.
 use Rattle.std.proofs.Common.{◌≡◌, Bool, true, false, List, [], ◌∷◌, ◌++◌, refl, ap, sym, ◌∙◌, append_assoc, append-nil}
 use Rattle.ig_defs.specs.declared.step.Act.{Act}
+use Rattle.ig_defs.specs.declared.step.Act.TheVariants as act
 use Rattle.ig_defs.specs.declared.step.Step.{Step}
 use Rattle.ig_defs.specs.Files.{Files}
 use Rattle.ig_defs.specs.Log.{Log, after, files_of, replay}
 use Rattle.ig_defs.specs.Own.{Moment, own_moments, with_moment}
 use Rattle.ig_defs.specs.Replay.{AreQuiet, replay-append}
 use Rattle.ig_cli.specs.Did.{Did, after_all, moments_from}
+use Rattle.ig_cli.specs.Making.{ListsTruly}
 
 with_moment-append : (mine : Bool) (m : Moment) (ms rest : List Moment) → with_moment mine m (ms ++ rest) ≡ with_moment mine m ms ++ rest
 with_moment-append true m ms rest = refl
@@ -22,13 +24,30 @@ pub moments_from-append : (files : Files) (first then : List Act) → moments_fr
 moments_from-append files [] then = refl
 moments_from-append files (a ∷ first) then = ap (λ ms. record { files = files; act = a } ∷ ms) (moments_from-append (after files a) first then)
 
-after_all-append : (files : Files) (first then : List Act) → after_all files (first ++ then) ≡ after_all (after_all files first) then
+pub after_all-append : (files : Files) (first then : List Act) → after_all files (first ++ then) ≡ after_all (after_all files first) then
 after_all-append files [] then = refl
 after_all-append files (a ∷ first) then = after_all-append (after files a) first then
 
 pub AreQuiet-append : (first then : List Act) → AreQuiet first → AreQuiet then → AreQuiet (first ++ then)
 AreQuiet-append [] then quiet_first quiet_then = quiet_then
 AreQuiet-append (a ∷ first) then quiet_first quiet_then = (quiet_first.0, AreQuiet-append first then quiet_first.1 quiet_then)
+
+-- quiet acts leave the files
+pub quiet_files : (files : Files) (acts : List Act) → AreQuiet acts → after_all files acts ≡ files
+quiet_files files [] quiet = refl
+quiet_files files (act.Read path ∷ acts) quiet = quiet_files files acts quiet.1
+quiet_files files (act.List dir given ∷ acts) quiet = quiet_files files acts quiet.1
+quiet_files files (act.Put path bytes ∷ acts) quiet = absurd quiet.0
+quiet_files files (act.Move from to ∷ acts) quiet = absurd quiet.0
+quiet_files files (act.Remove path ∷ acts) quiet = absurd quiet.0
+
+pub ListsTruly-append : (files : Files) (first then : List Act) → ListsTruly files first → ListsTruly files then → ListsTruly files (first ++ then)
+ListsTruly-append files [] then true_first true_then = true_then
+ListsTruly-append files (act.List dir given ∷ first) then true_first true_then = (true_first.0, ListsTruly-append files first then true_first.1 true_then)
+ListsTruly-append files (act.Read path ∷ first) then true_first true_then = ListsTruly-append files first then true_first true_then
+ListsTruly-append files (act.Put path bytes ∷ first) then true_first true_then = ListsTruly-append files first then true_first true_then
+ListsTruly-append files (act.Move from to ∷ first) then true_first true_then = ListsTruly-append files first then true_first true_then
+ListsTruly-append files (act.Remove path ∷ first) then true_first true_then = ListsTruly-append files first then true_first true_then
 
 -- nothing was done
 pub did_nothing : (log : Log) → Did log log []

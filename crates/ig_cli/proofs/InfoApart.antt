@@ -1,19 +1,15 @@
--- A chunk is no info file, and so it is the same once an info was put.
-use Rattle.std.proofs.Common.{◌≡◌, ◌==◌, ◌||◌, not, ℕ, true, false, cond, List, [], ◌∷◌, ◌++◌, Some, refl, ap, sym, ◌∙◌}
+-- A chunk is no info file.
+use Rattle.std.proofs.Common.{◌≡◌, ◌==◌, ◌||◌, not, ℕ, true, false, List, [], ◌∷◌, ◌++◌, refl, ap, sym, ◌∙◌}
 use Rattle.std.specs.Prelude.{codes}
 use Rattle.std.proofs.lemmas.Bool.{and_parts}
 use Rattle.std.proofs.lemmas.List.Folds.{list_all-append}
 use Rattle.std.specs.List.{list_all}
-use Rattle.std.specs.Ordering.{nat_cmp, eq_by_cmp, is_eq}
-use Rattle.std.specs.Cmp.Lexicographic.{slice_cmp, nat_list_cmp_total}
-use Rattle.std.specs.FinMap as map
-use Rattle.std.specs.declared.cmp.Ordering.{Ordering}
-use Rattle.std.specs.declared.cmp.Ordering.TheVariants.{Less, Equal, Greater}
+use Rattle.ig_space.specs.declared.point.Box3.{Box3}
 use Rattle.ig_space.specs.Path.{is_segment, is_segment_byte, joined}
-use Rattle.ig_space.specs.Chunk.{begins_with_digit}
-use Rattle.ig_defs.specs.Files.{Files, file_at}
+use Rattle.ig_space.specs.Chunk.{begins_with_digit, chunk_name, chunk_path}
+use Rattle.ig_space.specs.ChunkNames.{begins_with_digit-chunk_name, is_segment-chunk_name}
+use Rattle.ig_space.specs.Grid.{IsBox}
 use Rattle.ig_meaning.specs.Plan.{info_path}
-use Rattle.ig_cli.specs.Running.{IsChunkName}
 
 tail : List ℕ → List ℕ
 tail [] = []
@@ -44,18 +40,7 @@ segment_bytes [] h = refl
 segment_bytes (c ∷ cs) h = (and_parts (not (c == 46 || c == 45)) (list_all is_segment_byte (c ∷ cs)) h).1
 
 -- a chunk is no info file
-pub apart : (dir name layer : List ℕ) → IsChunkName name → joined dir name ≡ info_path layer → ⊥
-apart dir name layer is e =
-    true_false (sym is.digit ∙ ap begins_with_digit (same_name dir layer name (codes "info") (segment_bytes name is.segment) refl e))
-
-by_order : (r : Ordering) → (r ≡ Equal → ⊥) → is_eq r ≡ false
-by_order Less differ = refl
-by_order Equal differ = absurd (differ refl)
-by_order Greater differ = refl
-
-not_tied : (path other : List ℕ) → (path ≡ other → ⊥) → eq_by_cmp (slice_cmp nat_cmp) path other ≡ false
-not_tied path other differ = by_order (slice_cmp nat_cmp path other) (λ e. differ (map.slice_cmp-IsAntisymmetric map.nat_cmp-IsAntisymmetric path other e))
-
--- a file is what it was, once another was put
-pub file_at-other : (files : Files) (path other bytes : List ℕ) → (path ≡ other → ⊥) → file_at (map.insert files other bytes) path ≡ file_at files path
-file_at-other files path other bytes differ = map.get-insert nat_list_cmp_total files other bytes path ∙ ap (λ b. cond b (Some bytes) (map.get files path)) (not_tied path other differ)
+pub apart : (dir layer : List ℕ) (b : Box3) → IsBox b → info_path layer ≡ chunk_path dir b → ⊥
+apart dir layer b box e =
+    true_false (sym (begins_with_digit-chunk_name b box)
+    ∙ ap begins_with_digit (same_name dir layer (chunk_name b) (codes "info") (segment_bytes (chunk_name b) (is_segment-chunk_name b box)) refl (sym e)))

@@ -14,12 +14,12 @@ use Rattle.ig_meaning.specs.Plan.{stage_of, stage_of_command}
 use Rattle.ig_meaning.specs.Refusal.{Refusal}
 use Rattle.ig_meaning.specs.Stage.{Stage, Xfer, planned_puts, task_count}
 use Rattle.ig_meaning.specs.Words.{command_of}
-use Rattle.ig_cli.specs.declared.making.MakeError.TheVariants.{Missing as make_missing, BadInfo, DestNotEmpty, Failed, Memory as make_memory}
+use Rattle.ig_cli.specs.declared.making.MakeError.TheVariants.{Missing as make_missing, BadInfo, NoScale, DestNotEmpty, ShapeUnfit, TooManyTasks, TaskTooLarge, Failed, Memory as make_memory}
 use Rattle.ig_cli.specs.declared.report.CommandError.{CommandError}
 use Rattle.ig_cli.specs.declared.report.CommandError.TheVariants.{Words, Local}
 use Rattle.ig_cli.specs.declared.running.LocalError.{LocalError}
 use Rattle.ig_cli.specs.declared.running.LocalError.TheVariants.{Make, Run}
-use Rattle.ig_cli.specs.declared.running.RunError.TheVariants.{Missing, Malformed, Memory}
+use Rattle.ig_cli.specs.declared.task.RunError.TheVariants.{Missing, Malformed, Memory}
 use Rattle.ig_cli.specs.Performed.{Performed, JudgesWords, not_words, not_read, not_made, was_run}
 use Rattle.ig_cli.specs.Printed.{HasComplained, HasPrinted, HasPrintedPart}
 use Rattle.ig_cli.specs.Stages.{shown}
@@ -144,7 +144,7 @@ copied_of words old new w = record {
   planned = w.planned;
   outputs = w.run.wanted.outputs;
   wanted = w.run.wanted.wanted;
-  files = w.files ∙ ap (put_all (files_of old)) w.run.wanted.put;
+  files = w.files ∙ w.run.wanted.put;
 }
 
 sequential_of : (words : List (List ℕ)) (old new : Log) → WasRun words old new Finished → IsSequential words old new
@@ -201,7 +201,11 @@ to_the_refusal words old new ended status is (ran ending same w) e =
 never_finished : (e : LocalError) → ¬ (ending_of_local e ≡ Finished)
 never_finished (Make (make_missing path)) is = cc
 never_finished (Make (BadInfo path cause)) is = cc
+never_finished (Make (NoScale mip count)) is = cc
 never_finished (Make (DestNotEmpty path)) is = cc
+never_finished (Make (ShapeUnfit axis)) is = cc
+never_finished (Make (TooManyTasks count)) is = cc
+never_finished (Make (TaskTooLarge voxels)) is = cc
 never_finished (Make Failed) is = cc
 never_finished (Make make_memory) is = cc
 never_finished (Run (Missing path)) is = cc
@@ -222,9 +226,9 @@ record HasLine (words : List (List ℕ)) (old : Log) (text : List ℕ) : Type 0 
 line_of : (words : List (List ℕ)) (old new : Log) (result : Result ℕ CommandError) → Performed words old new result → ended_of result ≡ Ends Finished → HasLine words old (out_line result)
 line_of words old new result (not_words is none did) e = let no_way : NotWords ≡ Ends Finished = sym is ∙ e in cc
 line_of words old new result (not_read is did) e = let no_way : Ends NoMemory ≡ Ends Finished = sym is ∙ e in cc
-line_of words old new result (not_made source dest error is asked looks) e =
+line_of words old new result (not_made request error is asked looks) e =
     absurd (never_finished (Make error) (ends_same (ending_of_local (Make error)) Finished (sym (ap ended_of is) ∙ e)))
-line_of words old new result (was_run source dest stage mid ending is asked planned looks runs tasks) e =
+line_of words old new result (was_run request stage mid ending is asked planned looks runs tasks) e =
     record {
       stage = shown stage;
       planned = ap (λ command. stage_of_command command (files_of old)) asked ∙ planned;

@@ -1,5 +1,6 @@
 -- A turn on a store beside which others only read is what its own acts are.
-use Rattle.std.proofs.Common.{◌≡◌, ℕ, Bool, List, [], ◌∷◌, ◌++◌, Option, Result, Ok, Err, refl, ap, subst, ◌∙◌, inl, inr, ◌⊎◌, is_some}
+use Rattle.std.proofs.Common.{◌≡◌, ℕ, Bool, List, [], ◌∷◌, ◌++◌, Option, Result, Ok, Err, refl, ap, subst, ◌∙◌, inl, inr, ◌⊎◌, is_some, All, Contains, slice_index_or}
+use Rattle.std.proofs.lemmas.List.Elements.{All-contains_itself}
 use Rattle.std.specs.FinMap as map
 use Rattle.ig_defs.specs.declared.step.Act.{Act}
 use Rattle.ig_defs.specs.declared.step.Act.TheVariants as act
@@ -10,7 +11,8 @@ use Rattle.ig_defs.specs.Calls.{TakesRead, TakesHas, TakesNames, TakesPut}
 use Rattle.ig_defs.specs.Files.{Files}
 use Rattle.ig_defs.specs.Log.{Log, Turn, ByOthers, OthersOnlyRead, after, files_of, own_all, replay}
 use Rattle.ig_defs.specs.Own.{own_moments, with_moment}
-use Rattle.ig_defs.specs.Replay.{replay-others}
+use Rattle.ig_defs.specs.Names.{Stands, StandsOnce}
+use Rattle.ig_defs.specs.Replay.{after-quiet, replay-others}
 use Rattle.ig_cli.specs.declared.pipeline.Pipeline.{Pipeline}
 use Rattle.ig_cli.specs.Allowed.{is_allowed}
 use Rattle.ig_cli.specs.Pipeline.{local_rule}
@@ -51,6 +53,19 @@ module _ (old new : Log) (P : Files → List Step → List Act → Type 0) (t : 
     files = t.files ∙ ap (λ files. replay files (own_all t.acts)) kept ∙ replay-own (files_of old) t.acts;
   }
 
+-- what stood at some moment of others who only read stands before them
+stands_first : (dir name : List ℕ) (files : Files) (others : List Step) → ByOthers (is_allowed local_rule) files others → StandsOnce files others dir name → Stands files dir name
+stands_first dir name files [] by here = here
+stands_first dir name files (step ∷ others) by (inl here) = here
+stands_first dir name files (step ∷ others) by (inr later) =
+    subst (λ now. Stands now dir name) (after-quiet files step.act (others_only_read files step.act by.1)) (stands_first dir name (after files step.act) others by.2 later)
+
+stand_now : (old new : Log) (P : Files → List Step → List Act → Type 0) (t : Turn (is_allowed local_rule) old new P) (dir : List ℕ) (given : List (List ℕ))
+    → ((name : List ℕ) → Contains given name → StandsOnce (files_of old) t.others dir name) → All (Stands (files_of old) dir) given
+stand_now old new P t dir given only = λ k other below.
+    let name = slice_index_or given k other in
+    stands_first dir name (files_of old) t.others t.by_others (only name (All-contains_itself given k other below))
+
 pub did_read : (old new : Log) (path : List ℕ) (result : Result (Option (List ℕ)) StoreError)
     → Turn (is_allowed local_rule) old new (TakesRead path result) → DidRead old new path result
 did_read old new path (Ok found) t = (subst (Did old new) t.took.0 (did old new _ t), t.took.1 ∙ ap (λ files. map.get files path) (kept old new _ t))
@@ -63,7 +78,7 @@ did_has old new path (Err e) t = subst (Did old new) t.took (did old new _ t)
 
 pub did_list : (old new : Log) (dir : List ℕ) (result : Result (List (List ℕ)) StoreError)
     → Turn (is_allowed local_rule) old new (TakesNames dir result) → DidList old new dir result
-did_list old new dir (Ok given) t = subst (Did old new) t.took.0 (did old new _ t)
+did_list old new dir (Ok given) t = (subst (Did old new) t.took.0 (did old new _ t), stand_now old new _ t dir given t.took.1.only)
 did_list old new dir (Err e) t = subst (Did old new) t.took (did old new _ t)
 
 may_have_put : (old new : Log) (path bytes : List ℕ) (acts : List Act) → Did old new acts → (acts ≡ []) ⊎ (acts ≡ act.Put path bytes ∷ []) → MayHavePut old new path bytes

@@ -1,9 +1,12 @@
 pub mod Allowed
 pub mod Pipeline
 pub mod Did
+pub mod Options
+pub mod Parts
 pub mod Words
 pub mod Stages
 pub mod Making
+pub mod Tasks
 pub mod Running
 pub mod Report
 pub mod Performed

@@ -6,7 +6,7 @@ use Rattle.ig_meaning.specs.Ending.{Ending, NoMemory}
 use Rattle.ig_meaning.specs.Fault.{Planned, making_of_copy}
 use Rattle.ig_meaning.specs.Plan.{info_path, stage_of_found}
 use Rattle.ig_meaning.specs.Stage.{task_count}
-use Rattle.ig_meaning.specs.Words.{Copy, command_of}
+use Rattle.ig_meaning.specs.Words.{Copy, Request, command_of}
 use Rattle.ig_cli.specs.declared.making.MakeError.{MakeError}
 use Rattle.ig_cli.specs.declared.report.CommandError.{CommandError}
 use Rattle.ig_cli.specs.declared.report.CommandError.TheVariants.{Local}
@@ -22,11 +22,11 @@ use Rattle.ig_cli.specs.Stages.{shown}
 pub data Performed (words : List (List ℕ)) (old new : Log) (result : Result ℕ CommandError) : Type 0 where
   not_words : ended_of result ≡ NotWords → command_of words ≡ None → Did old new [] → Performed words old new result
   not_read : ended_of result ≡ Ends NoMemory → Did old new [] → Performed words old new result
-  not_made : (source dest : List ℕ) (e : MakeError) → result ≡ Err (Local (Make e)) → command_of words ≡ Some (Copy source dest)
-      → Looks {T = Stage} (making_of_copy source dest) (λ stage. Planned (shown stage)) old new (Err e) → Performed words old new result
-  was_run : (source dest : List ℕ) (stage : Stage) (mid : Log) (ending : Ending) → ended_of result ≡ Ends ending → command_of words ≡ Some (Copy source dest)
-      → stage_of_found source dest (file_at (files_of old) (info_path source)) ≡ Some (shown stage)
-      → Looks {T = Stage} (making_of_copy source dest) (λ stage. Planned (shown stage)) old mid (Ok stage)
+  not_made : (request : Request) (e : MakeError) → result ≡ Err (Local (Make e)) → command_of words ≡ Some (Copy request)
+      → Looks {T = Stage} (making_of_copy request) (λ stage. Planned (shown stage)) old new (Err e) → Performed words old new result
+  was_run : (request : Request) (stage : Stage) (mid : Log) (ending : Ending) → ended_of result ≡ Ends ending → command_of words ≡ Some (Copy request)
+      → stage_of_found request (file_at (files_of old) (info_path request.source)) ≡ Some (shown stage)
+      → Looks {T = Stage} (making_of_copy request) (λ stage. Planned (shown stage)) old mid (Ok stage)
       → Runs (shown stage) mid new ending → IfOk result (λ tasks. tasks ≡ task_count (shown stage)) → Performed words old new result
 
 -- The words are no command's where a command ended so, and elsewhere they are one's, unless memory ran out.

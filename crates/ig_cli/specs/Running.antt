@@ -1,39 +1,24 @@
 -- What the steps of a run tell.
-use Rattle.std.specs.Prelude.{◌≡◌, ◌≤◌, ℕ, true, List, [], ◌∷◌, length, Option, Some, Result, Ok, Err}
-use Rattle.ig_space.specs.declared.point.Point.{Point}
-use Rattle.ig_space.specs.declared.geometry.Width.{Width}
-use Rattle.ig_space.specs.declared.geometry.Width.TheVariants.{W64}
-use Rattle.ig_space.specs.declared.geometry.Encoding.TheVariants.{Raw}
-use Rattle.ig_space.specs.declared.place.Place.{Place}
-use Rattle.ig_space.specs.Path.{is_segment}
-use Rattle.ig_space.specs.Chunk.{begins_with_digit, chunk_name, chunk_path}
-use Rattle.ig_space.specs.Geometry.{geometry_fits}
-use Rattle.ig_space.specs.Grid.{chunks_of, size_of, space_of}
-use Rattle.ig_space.specs.Raw.{raw_text, AllFit}
+use Rattle.std.specs.Prelude.{◌≡◌, ◌<◌, ℕ, ◌-◌, List, [], ◌∷◌, ◌++◌, length, take, Option, None, Some, Result, Ok, Err}
 use Rattle.ig_defs.specs.declared.step.Act.{Act}
 use Rattle.ig_defs.specs.declared.step.Act.TheVariants as act
 use Rattle.ig_defs.specs.Files.{file_at}
 use Rattle.ig_defs.specs.Log.{Log, files_of}
-use Rattle.ig_defs.specs.Own.{put_all, puts_of}
-use Rattle.ig_layer.specs.Layer.{raw_len}
-use Rattle.ig_layer.specs.OneCell.{IsOneCell}
-use Rattle.ig_layer.specs.OneChunk.{AreLabelsOf}
+use Rattle.ig_defs.specs.Own.{File, put_all, puts_of, reads_of}
+use Rattle.ig_space.specs.Chunks.{listed}
 use Rattle.ig_meaning.specs.Refusal as refusal
 use Rattle.ig_meaning.specs.Stage as meaning
 use Rattle.ig_meaning.specs.Ending.{Ending, Finished, Refuses, StoreFailed, NoMemory, HasRun}
-use Rattle.ig_cli.specs.declared.running.Cause.{Cause}
-use Rattle.ig_cli.specs.declared.running.Cause.TheVariants.{Length}
-use Rattle.ig_cli.specs.declared.running.RecodeError.{RecodeError}
-use Rattle.ig_cli.specs.declared.running.RecodeError.TheVariants as recode
-use Rattle.ig_cli.specs.declared.running.RunError.{RunError}
-use Rattle.ig_cli.specs.declared.running.RunError.TheVariants.{Missing, Malformed, Memory}
+use Rattle.ig_meaning.specs.Fault.{Find, fault_of_tasks, finds_of}
+use Rattle.ig_cutout.specs.declared.types.Input.{Input}
+use Rattle.ig_cutout.specs.declared.types.Output.{Output}
+use Rattle.ig_cutout.specs.Inputs.{HoldsAll, cause_of}
+use Rattle.ig_cli.specs.declared.task.RunError.{RunError}
+use Rattle.ig_cli.specs.declared.task.RunError.TheVariants.{Missing, Malformed, Memory}
 use Rattle.ig_cli.specs.declared.running.LocalError.{LocalError}
 use Rattle.ig_cli.specs.declared.running.LocalError.TheVariants.{Make, Run}
 use Rattle.ig_cli.specs.Making.{ending_of_make}
 use Rattle.ig_cli.specs.Did.{Did, MayHavePut, after_all, moments_from}
-
-abbrev pub cause_of : Cause → refusal.Cause
-cause_of (Length got want) = refusal.WrongLength got want
 
 abbrev pub ending_of_run : RunError → Ending
 ending_of_run (Missing path) = Refuses (refusal.Missing path)
@@ -57,55 +42,38 @@ pub record Runs (s : meaning.Stage) (old new : Log) (ending : Ending) : Type 0 w
   pub run : HasRun s (files_of old) (moments_from (files_of old) acts) ending
 
 -- ---- the parts of a run
--- a scale that is one raw chunk of 64-bit labels, in a short directory
-pub record IsOneChunk (place : Place) : Type 0 where
-  pub width : place.geometry.width ≡ W64
-  pub raw : place.geometry.encoding ≡ Raw
-  pub fits : geometry_fits place.geometry ≡ true
-  pub one : IsOneCell (chunks_of place.geometry)
-  pub short : length place.dir ≤ 201
+abbrev pub reads_all : List (List ℕ) → List Act
+reads_all [] = []
+reads_all (path ∷ paths) = act.Read path ∷ reads_all paths
 
--- the path of its chunk
-abbrev pub chunk_of : Place → List ℕ
-chunk_of place = chunk_path place.dir (space_of place.geometry)
+abbrev pub puts_all : List File → List Act
+puts_all [] = []
+puts_all (file ∷ files) = act.Put file.path file.bytes ∷ puts_all files
 
--- a name of a chunk, which no other file of a layer has
-pub record IsChunkName (name : List ℕ) : Type 0 where
-  pub segment : is_segment name ≡ true
-  pub digit : begins_with_digit name ≡ true
+-- the files that outputs put
+abbrev pub file_put : List ℕ → Option (List ℕ) → List File
+file_put path None = []
+file_put path (Some text) = record { path = path; bytes = text } ∷ []
 
--- the text is that of the labels that the bytes have
-pub record IsCopy (width : Width) (size : Point) (bytes text : List ℕ) : Type 0 where
-  pub labels : List ℕ
-  pub long : length bytes ≡ raw_len width size
-  pub are : AreLabelsOf width size bytes labels
-  pub fit : AllFit width labels
-  pub is : text ≡ raw_text width labels
+abbrev pub files_put : List Output → List File
+files_put [] = []
+files_put (output ∷ outputs) = file_put output.path output.text ++ files_put outputs
 
-abbrev pub Recodes : Width → Point → List ℕ → Result (List ℕ) RecodeError → Type 0
-Recodes width size bytes (Ok text) = IsCopy width size bytes text
-Recodes width size bytes (Err (recode.Wrong cause)) = meaning.cause_in Raw width size bytes ≡ Some (cause_of cause)
-Recodes width size bytes (Err recode.Memory) = Unit {0}
+-- some first ones of the paths were read
+pub record ReadsSome (paths : List (List ℕ)) (old new : Log) : Type 0 where
+  pub number : ℕ
+  pub did : Did old new (reads_all (take number paths))
 
-abbrev pub run_error_of : List ℕ → RecodeError → RunError
-run_error_of path (recode.Wrong cause) = Malformed path cause
-run_error_of path recode.Memory = Memory
+-- and not all
+pub record ReadsFewer (paths : List (List ℕ)) (old new : Log) : Type 0 where
+  pub number : ℕ
+  pub fewer : number < length paths
+  pub did : Did old new (reads_all (take number paths))
 
--- why the chunk is refused, by what was found of it
-abbrev pub refusal_of_chunk : Place → Option (List ℕ) → Option refusal.Refusal
-refusal_of_chunk place found = meaning.or_else (meaning.missing_in (chunk_of place) found) (meaning.malformed_in place (space_of place.geometry) (chunk_of place) found)
-
--- the text is a copy of the chunk that was found
-pub record HasCopy (place : Place) (given : Option (List ℕ)) (text : List ℕ) : Type 0 where
-  pub bytes : List ℕ
-  pub found : given ≡ Some bytes
-  pub copy : IsCopy place.geometry.width (size_of (space_of place.geometry)) bytes text
-  pub name : IsChunkName (chunk_name (space_of place.geometry))
-
--- a file that may have been read
-pub data MayHaveRead (old new : Log) (path : List ℕ) : Type 0 where
-  not_read : Did old new [] → MayHaveRead old new path
-  was_read : Did old new (act.Read path ∷ []) → MayHaveRead old new path
+-- the files of some first ones of the outputs were put
+pub record PutsSome (outputs : List Output) (old new : Log) : Type 0 where
+  pub number : ℕ
+  pub did : Did old new (puts_all (files_put (take number outputs)))
 
 -- ---- by how a part ended
 abbrev pub FailsToPut : Log → Log → List ℕ → List ℕ → Ending → Type 0
@@ -118,12 +86,74 @@ abbrev pub PutsFile : Log → Log → List ℕ → List ℕ → Result (Unit {0}
 PutsFile old new path bytes (Ok done) = Did old new (act.Put path bytes ∷ [])
 PutsFile old new path bytes (Err e) = FailsToPut old new path bytes (ending_of_local e)
 
-abbrev pub FailsToRead : Place → Log → Log → Ending → Type 0
-FailsToRead place old new (Refuses r) = Did old new (act.Read (chunk_of place) ∷ []) × (refusal_of_chunk place (file_at (files_of old) (chunk_of place)) ≡ Some r)
-FailsToRead place old new StoreFailed = Did old new []
-FailsToRead place old new NoMemory = MayHaveRead old new (chunk_of place)
-FailsToRead place old new Finished = ⊥
+abbrev pub FailsToPutAll : List Output → Log → Log → Ending → Type 0
+FailsToPutAll outputs old new StoreFailed = PutsSome outputs old new
+FailsToPutAll outputs old new NoMemory = PutsSome outputs old new
+FailsToPutAll outputs old new (Refuses r) = ⊥
+FailsToPutAll outputs old new Finished = ⊥
 
-abbrev pub ReadsCopy : Place → Log → Log → Result (List ℕ) LocalError → Type 0
-ReadsCopy place old new (Ok text) = Did old new (act.Read (chunk_of place) ∷ []) × HasCopy place (file_at (files_of old) (chunk_of place)) text
-ReadsCopy place old new (Err e) = FailsToRead place old new (ending_of_local e)
+abbrev pub PutsOutputs : List Output → Log → Log → Result (Unit {0}) LocalError → Type 0
+PutsOutputs outputs old new (Ok done) = Did old new (puts_all (files_put outputs))
+PutsOutputs outputs old new (Err e) = FailsToPutAll outputs old new (ending_of_local e)
+
+abbrev pub FailsToRead : List (List ℕ) → Log → Log → Ending → Type 0
+FailsToRead paths old new StoreFailed = ReadsFewer paths old new
+FailsToRead paths old new NoMemory = ReadsSome paths old new
+FailsToRead paths old new (Refuses r) = ⊥
+FailsToRead paths old new Finished = ⊥
+
+abbrev pub ReadsInputs : List (List ℕ) → Log → Log → Result (List Input) LocalError → Type 0
+ReadsInputs paths old new (Ok inputs) = Did old new (reads_all paths) × HoldsAll (file_at (files_of old)) inputs
+ReadsInputs paths old new (Err e) = FailsToRead paths old new (ending_of_local e)
+
+-- ---- so far
+-- the first n paths were read, and the inputs are what was found
+pub record ReadSoFar (paths : List (List ℕ)) (n : ℕ) (old now : Log) (inputs : List Input) : Type 0 where
+  pub did : Did old now (reads_all (take n paths))
+  pub holds : HoldsAll (file_at (files_of old)) inputs
+
+-- the files of the first n outputs were put
+abbrev pub PutSoFar : List Output → ℕ → Log → Log → Type 0
+PutSoFar outputs n old now = Did old now (puts_all (files_put (take n outputs)))
+
+-- ---- a task
+-- it does not refuse, all its inputs were read, and some first ones of its files were put
+pub record PutsOfTask (s : meaning.Stage) (k : ℕ) (old new : Log) (outputs : List File) (number : ℕ) : Type 0 where
+  pub fine : meaning.task_refusal s k (file_at (files_of old)) ≡ None
+  pub made : meaning.task_files s k (file_at (files_of old)) ≡ Some outputs
+  pub did : Did old new (reads_all (meaning.inputs_of s k) ++ puts_all (take number outputs))
+
+pub record TaskDone (s : meaning.Stage) (k : ℕ) (old new : Log) : Type 0 where
+  pub outputs : List File
+  pub puts : PutsOfTask s k old new outputs (length outputs)
+
+-- a task that stopped while it read, or while it put
+pub data TaskStopped (s : meaning.Stage) (k : ℕ) (old new : Log) : Type 0 where
+  while_reading : ReadsFewer (meaning.inputs_of s k) old new → TaskStopped s k old new
+  while_putting : (outputs : List File) (number : ℕ) → PutsOfTask s k old new outputs number → TaskStopped s k old new
+
+-- or stopped once it had read
+pub data TaskHalted (s : meaning.Stage) (k : ℕ) (old new : Log) : Type 0 where
+  in_reading : ReadsSome (meaning.inputs_of s k) old new → TaskHalted s k old new
+  in_putting : (outputs : List File) (number : ℕ) → PutsOfTask s k old new outputs number → TaskHalted s k old new
+
+abbrev pub FailsTask : meaning.Stage → ℕ → Log → Log → Ending → Type 0
+FailsTask s k old new (Refuses r) = Did old new (reads_all (meaning.inputs_of s k)) × (meaning.task_refusal s k (file_at (files_of old)) ≡ Some r)
+FailsTask s k old new StoreFailed = TaskStopped s k old new
+FailsTask s k old new NoMemory = TaskHalted s k old new
+FailsTask s k old new Finished = ⊥
+
+abbrev pub RunsTask : meaning.Stage → ℕ → Log → Log → Result (Unit {0}) LocalError → Type 0
+RunsTask s k old new (Ok done) = TaskDone s k old new
+RunsTask s k old new (Err e) = FailsTask s k old new (ending_of_local e)
+
+-- ---- the first n tasks were run
+pub record RunsSome (s : meaning.Stage) (old new : Log) (n : ℕ) : Type 0 where
+  pub acts : List Act
+  pub did : Did old new acts
+  pub files : after_all (files_of old) acts ≡ put_all (files_of old) (puts_of (moments_from (files_of old) acts))
+  pub now : (meaning.run_tasks s (put_all (files_of old) (meaning.info_files s.info)) n).files ≡ Some (files_of new)
+  pub puts : puts_of (moments_from (files_of old) acts) ≡ meaning.info_files s.info ++ (meaning.run_tasks s (put_all (files_of old) (meaning.info_files s.info)) n).puts
+  pub reads : reads_of (moments_from (files_of old) acts) ≡ meaning.flattened (listed (meaning.inputs_of s) n)
+  pub fault : (rest : List Find) → fault_of_tasks s (meaning.task_count s) 0 (finds_of (moments_from (files_of old) acts) ++ rest)
+      ≡ fault_of_tasks s (meaning.task_count s - n) n rest

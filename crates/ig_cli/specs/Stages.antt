@@ -1,13 +1,17 @@
 -- A planned copy as a stage, and what a run of it stands on.
-use Rattle.std.specs.Prelude.{◌≡◌, ◌≤◌, ℕ, List, [], ◌∷◌, length, true, Some}
-use Rattle.ig_space.specs.declared.geometry.Width.TheVariants.{W64}
+use Rattle.std.specs.Prelude.{◌≡◌, ◌≢◌, ◌≤◌, true, [], ◌∷◌, length, None, Some}
+use Rattle.ig_space.specs.declared.point.Box3.{Box3}
 use Rattle.ig_space.specs.declared.geometry.Encoding.TheVariants.{Raw}
+use Rattle.ig_space.specs.Chunk.{chunk_path}
 use Rattle.ig_space.specs.Geometry.{geometry_fits}
-use Rattle.ig_space.specs.Grid.{chunks_of}
-use Rattle.ig_layer.specs.OneCell.{IsOneCell}
-use Rattle.ig_meaning.specs.Plan.{info_path, twice}
+use Rattle.ig_space.specs.Grid.{IsBox}
+use Rattle.ig_defs.specs.Own.{File}
 use Rattle.ig_meaning.specs.Stage as meaning
 use Rattle.ig_cli.specs.declared.stage.Stage.{Stage}
+use Rattle.ig_cli.specs.declared.stage.InfoFile.{InfoFile}
+
+abbrev pub shown_info : InfoFile → File
+shown_info info = record { path = info.path; bytes = info.text }
 
 -- the stage of a planned copy
 abbrev pub shown : Stage → meaning.Stage
@@ -15,18 +19,29 @@ shown s = record {
   kind = meaning.Xfer;
   source = s.source;
   dests = s.dest ∷ [];
-  shape = twice s.source.geometry.chunk;
-  info = Some (record { path = s.info.path; bytes = s.info.text });
+  shape = s.shape;
+  info = Some (shown_info s.info);
 }
 
--- 64-bit labels, raw, in one chunk; the copy has the same geometry, and its info is called `info`
-pub record CanRun (s : Stage) : Type 0 where
-  pub same : s.dest.geometry ≡ s.source.geometry
-  pub width : s.source.geometry.width ≡ W64
-  pub raw : s.source.geometry.encoding ≡ Raw
-  pub fits : geometry_fits s.source.geometry ≡ true
-  pub one : IsOneCell (chunks_of s.source.geometry)
+-- The same voxels of a raw scale in another directory; the info is no chunk of the source. Whether its shape fits is not
+-- known yet.
+pub record IsDraft (s : Stage) : Type 0 where
+  pub source_fits : geometry_fits s.source.geometry ≡ true
+  pub dest_fits : geometry_fits s.dest.geometry ≡ true
+  pub source_raw : s.source.geometry.encoding ≡ Raw
+  pub dest_raw : s.dest.geometry.encoding ≡ Raw
+  pub offset : s.dest.geometry.offset ≡ s.source.geometry.offset
+  pub size : s.dest.geometry.size ≡ s.source.geometry.size
+  pub width : s.dest.geometry.width ≡ s.source.geometry.width
+  pub x_shape : 1 ≤ s.shape.x
+  pub y_shape : 1 ≤ s.shape.y
+  pub z_shape : 1 ≤ s.shape.z
   pub source_short : length s.source.dir ≤ 201
   pub dest_short : length s.dest.dir ≤ 201
-  pub layer : List ℕ
-  pub info : s.info.path ≡ info_path layer
+  pub apart : s.source.dir ≢ s.dest.dir
+  pub info_apart : (b : Box3) → IsBox b → s.info.path ≢ chunk_path s.source.dir b
+
+-- and it fits
+pub record CanRun (s : Stage) : Type 0 where
+  pub draft : IsDraft s
+  pub fit : meaning.unfit (shown s) ≡ None

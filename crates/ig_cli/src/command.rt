@@ -3,7 +3,7 @@ ghost use Rattle.std.specs.Prelude.{◌≡◌, ◌≢◌, ◌⊎◌, ◌↔◌, 
 ghost use Rattle.ig_defs.specs.Causes.{Rose};
 ghost use Rattle.ig_defs.specs.Log.{files_of};
 ghost use Rattle.ig_defs.specs.Own.{moments_since, put_all, puts_of};
-ghost use Rattle.ig_meaning.specs.Call.{IsCopied, IsSequential, PutsAll, PutsInOrder};
+ghost use Rattle.ig_meaning.specs.Call.{IsCopied, IsReady, IsSequential, PutsAll, PutsInOrder};
 ghost use Rattle.ig_meaning.specs.Ending.{StoreFailed};
 ghost use Rattle.ig_meaning.specs.Fault.{fault_of, making_of};
 ghost use Rattle.ig_meaning.specs.Lines.{fault_line, memory_text, store_text, words_text};
@@ -65,7 +65,7 @@ fn perform<S: Store<Pipeline>>(
     let Some(request) = read_words(alloc, words)? else {
         return Err(CommandError::Words);
     };
-    let stage = making::make(alloc, store, &request.source, &request.dest)?;
+    let stage = making::make(alloc, store, &request)?;
     let tasks = running::run(alloc, store, &stage)?;
     Ok(tasks)
 }
@@ -91,6 +91,7 @@ pub fn igneous<R: Threads + Sync, S: Store<Pipeline>, C: Clock, O: Sink, E: Sink
     ensures refused { S.tells → (result ≡ 5) ↔ (IsSome (fault_of (texts_of words.now.items) (moments_since (S.log store.old) (S.log store.new))) × (result ≢ 7)) }
     ensures store_failed { result ≡ 6 → Rose (S.faults store.old) (S.faults store.new) }
     ensures out_failed { result ≡ 9 → Rose (O.faults out.old) (O.faults out.new) }
+    ensures complete { S.tells → IsReady (texts_of words.now.items) (files_of (S.log store.old)) → ¬ Rose (S.faults store.old) (S.faults store.new) → ¬ Rose (O.faults out.old) (O.faults out.new) → (result ≡ 0) ⊎ (result ≡ 7) }
 
     // At status 0 the new layer has its info and exactly the wanted files, and nothing else changed.
     ensures copied { S.tells → result ≡ 0 → IsCopied (texts_of words.now.items) (S.log store.old) (S.log store.new) }

@@ -5,15 +5,24 @@
 
 mod calls;
 mod command;
+#[cfg(test)]
+mod layers_tests;
 mod lines;
 mod making;
+#[cfg(test)]
+mod making_tests;
+mod options;
 mod pipeline;
+mod planning;
 mod report;
 mod running;
 mod stage;
+mod task;
 #[cfg(test)]
 mod tests;
 mod words;
+#[cfg(test)]
+mod words_tests;
 
 pub use command::igneous;
 pub use pipeline::{Pipeline, Role, rule_of};

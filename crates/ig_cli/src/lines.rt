@@ -1,15 +1,19 @@
 //! The lines that a command prints, each with its line end.
 ghost use Rattle.std.specs.Prelude.{◌≡◌, IfOk, codes, string_bytes};
+ghost use Rattle.ig_layer.specs.Faults as layer;
 ghost use Rattle.ig_meaning.specs.Refusal as refusal;
 ghost use Rattle.ig_meaning.specs.Stage.{Xfer};
 ghost use Rattle.ig_meaning.specs.Ending.{Refuses};
-ghost use Rattle.ig_meaning.specs.Lines.{fault_line, refusal_text, spaced, ran_line as line_of_ran};
+ghost use Rattle.ig_meaning.specs.Lines.{axis_text, fault_line, refusal_text, spaced, ran_line as line_of_ran};
 ghost use Rattle.ig_cli.specs.Making.{ending_of_make};
-ghost use Rattle.ig_cli.specs.Running.{cause_of, ending_of_local, ending_of_run};
+ghost use Rattle.ig_cutout.specs.Inputs.{cause_of};
+ghost use Rattle.ig_cli.specs.Running.{ending_of_local, ending_of_run};
 ghost use Rattle.ig_cli.specs.Report.{shown_line, status_of, Ends, Tells};
 
 use crate::making::MakeError;
-use crate::running::{Cause, LocalError, RunError};
+use crate::running::LocalError;
+use crate::task::RunError;
+use ig_cutout::Cause;
 use ig_info::InfoError;
 use std::alloc::{AllocError, Global};
 
@@ -60,6 +64,42 @@ fn missing(alloc: Global, path: &str) -> Result<String, AllocError>
     format!(in alloc; "igneous: missing {path}\n")
 }
 
+fn no_scale(alloc: Global, mip: u32, count: u32) -> Result<String, AllocError>
+    ensures { IfOk result (λ line. string_bytes line ≡ fault_line (refusal_text (refusal.NoScale mip count))) }
+{
+    format!(in alloc; "igneous: no scale {mip} of {count}\n")
+}
+
+/// The name of an axis, counted from 0.
+fn axis_name(axis: u32) -> &'static str
+    ensures { result.now ≡ axis_text axis }
+{
+    match axis {
+        0 => "x",
+        1 => "y",
+        _ => "z",
+    }
+}
+
+fn shape_unfit(alloc: Global, axis: u32) -> Result<String, AllocError>
+    ensures { IfOk result (λ line. string_bytes line ≡ fault_line (refusal_text (refusal.ShapeUnfit axis))) }
+{
+    let name = axis_name(axis);
+    format!(in alloc; "igneous: shape does not fit axis {name}\n")
+}
+
+fn too_many_tasks(alloc: Global, count: u128) -> Result<String, AllocError>
+    ensures { IfOk result (λ line. string_bytes line ≡ fault_line (refusal_text (refusal.TooManyTasks count))) }
+{
+    format!(in alloc; "igneous: too many tasks {count}\n")
+}
+
+fn task_too_large(alloc: Global, voxels: u128) -> Result<String, AllocError>
+    ensures { IfOk result (λ line. string_bytes line ≡ fault_line (refusal_text (refusal.TaskTooLarge voxels))) }
+{
+    format!(in alloc; "igneous: task too large {voxels}\n")
+}
+
 fn not_empty(alloc: Global, path: &str) -> Result<String, AllocError>
     ensures { IfOk result (λ line. string_bytes line ≡ fault_line (refusal_text (refusal.NotEmpty path.now))) }
 {
@@ -81,7 +121,7 @@ fn malformed_at(alloc: Global, path: &str, cause: &str, member: &str) -> Result<
 }
 
 fn wrong_length(alloc: Global, path: &str, got: u64, want: u64) -> Result<String, AllocError>
-    ensures { IfOk result (λ line. string_bytes line ≡ fault_line (refusal_text (refusal.Malformed path.now (refusal.WrongLength got want)))) }
+    ensures { IfOk result (λ line. string_bytes line ≡ fault_line (refusal_text (refusal.Malformed path.now (layer.WrongLength got want)))) }
 {
     format!(in alloc; "igneous: malformed {path} wrong length {got} want {want}\n")
 }
@@ -124,7 +164,11 @@ fn line_of_make(alloc: Global, e: &MakeError) -> FaultLine
     match e {
         MakeError::Missing { path } => refused(missing(alloc, path.as_str())),
         MakeError::BadInfo { path, cause } => refused(bad_info(alloc, path.as_str(), cause)),
+        MakeError::NoScale { mip, count } => refused(no_scale(alloc, *mip, *count)),
         MakeError::DestNotEmpty { path } => refused(not_empty(alloc, path.as_str())),
+        MakeError::ShapeUnfit { axis } => refused(shape_unfit(alloc, *axis)),
+        MakeError::TooManyTasks { count } => refused(too_many_tasks(alloc, *count)),
+        MakeError::TaskTooLarge { voxels } => refused(task_too_large(alloc, *voxels)),
         MakeError::Failed => FaultLine::Store,
         MakeError::Memory => FaultLine::Memory,
     }

@@ -21,14 +21,19 @@ const SEVEN: [u8; 8] = [7, 0, 0, 0, 0, 0, 0, 0];
 
 /// What a command left and printed.
 #[derive(Drop)]
-struct Done {
-    status: u8,
-    out: MemSink,
-    err: MemSink,
-    store: MemStore<Pipeline>,
+pub(crate) struct Done {
+    pub(crate) status: u8,
+    pub(crate) out: MemSink,
+    pub(crate) err: MemSink,
+    pub(crate) store: MemStore<Pipeline>,
 }
 
-fn put(alloc: Global, files: &mut FileMap, path: &str, bytes: &[u8]) -> Result<(), Failed> {
+pub(crate) fn put(
+    alloc: Global,
+    files: &mut FileMap,
+    path: &str,
+    bytes: &[u8],
+) -> Result<(), Failed> {
     let path = Path::new(alloc, path)?.ok_or("not a path")?;
     files.insert(path, Bytes::of(alloc, bytes)?)?;
     Ok(())
@@ -42,12 +47,12 @@ fn layer(alloc: Global, info: &str, chunk: &[u8]) -> Result<FileMap, Failed> {
     Ok(files)
 }
 
-fn no_fails(alloc: Global) -> Fails {
+pub(crate) fn no_fails(alloc: Global) -> Fails {
     List::new(alloc)
 }
 
 /// Calls of this number fail.
-fn failing(alloc: Global, call: u64, made: bool) -> Result<Fails, Failed> {
+pub(crate) fn failing(alloc: Global, call: u64, made: bool) -> Result<Fails, Failed> {
     let mut fails = List::new(alloc);
     fails.push(Fail {
         from: call,
@@ -66,7 +71,7 @@ fn words_of(alloc: Global, text: &str) -> Result<Vec<String>, Failed> {
 }
 
 /// Runs the command of these words; `out` takes at most so many bytes.
-fn run<R: Threads + Sync>(
+pub(crate) fn run<R: Threads + Sync>(
     rt: &R,
     alloc: Global,
     text: &str,
@@ -104,7 +109,7 @@ fn copied<R: Threads + Sync>(rt: &R, alloc: Global, files: FileMap) -> Result<Do
 }
 
 /// Whether a file is there with these bytes.
-fn stands(alloc: Global, done: &Done, path: &str, bytes: &[u8]) -> Result<bool, Failed> {
+pub(crate) fn stands(alloc: Global, done: &Done, path: &str, bytes: &[u8]) -> Result<bool, Failed> {
     let path = Path::new(alloc, path)?.ok_or("not a path")?;
     Ok(match done.store.file(&path) {
         Some(found) => found.as_bytes() == bytes,
@@ -113,29 +118,10 @@ fn stands(alloc: Global, done: &Done, path: &str, bytes: &[u8]) -> Result<bool, 
 }
 
 /// Asserts the status, and what was printed on `out` and `err`.
-fn expect(rt: &impl Abort, done: &Done, status: u8, out: &str, err: &str) {
+pub(crate) fn expect(rt: &impl Abort, done: &Done, status: u8, out: &str, err: &str) {
     assert_eq!(rt; done.status, status);
     assert_eq!(rt; done.out.bytes(), out.as_bytes());
     assert_eq!(rt; done.err.bytes(), err.as_bytes());
-}
-
-/// Asserts that these words are no command's, and that nothing is read.
-fn refuses_words<R: Threads + Sync + Abort>(
-    rt: &R,
-    alloc: Global,
-    text: &str,
-) -> Result<(), Failed> {
-    let done = run(
-        rt,
-        alloc,
-        text,
-        layer(alloc, INFO, &SEVEN)?,
-        no_fails(alloc),
-        1000,
-    )?;
-    expect(rt, &done, 2, "", "igneous: the words are not a command\n");
-    assert_eq!(rt; done.store.steps().len(), 0);
-    Ok(())
 }
 
 #[test]
@@ -149,28 +135,36 @@ fn a_layer_of_one_voxel_is_copied(rt: HostRuntime) -> Result<(), Failed> {
     Ok(())
 }
 
+/// A layer's name of 101 bytes.
+const LONG: &str =
+    "0123456789012345678901234567890123456789012345678901234567890123456789012345678901234567890123456789x";
+
 #[test]
 fn other_words_are_no_command(rt: HostRuntime) -> Result<(), Failed> {
     let alloc = rt.alloc();
-    refuses_words(&rt, alloc, "")?;
-    refuses_words(&rt, alloc, "image xfer seg")?;
-    refuses_words(&rt, alloc, "image xfer seg copy more")?;
-    refuses_words(&rt, alloc, "image xfer seg ../x")?;
-    refuses_words(&rt, alloc, "image ccl faces seg")?;
-    refuses_words(&rt, alloc, "image xfer seg /tmp/copy")?;
-    refuses_words(&rt, alloc, "image xfer gs://seg copy")
-}
-
-#[test]
-fn other_layers_are_no_command(rt: HostRuntime) -> Result<(), Failed> {
-    let alloc = rt.alloc();
-    refuses_words(&rt, alloc, "image xfer seg seg")?;
-    refuses_words(&rt, alloc, "image xfer seg .copy")?;
-    refuses_words(&rt, alloc, "image xfer seg a/-b")?;
-    let long =
-        "0123456789012345678901234567890123456789012345678901234567890123456789012345678901234567890123456789x";
-    let words = format!(in alloc; "image xfer seg {long}")?;
-    refuses_words(&rt, alloc, words.as_str())
+    let long = format!(in alloc; "image xfer seg {LONG}")?;
+    for text in [
+        "",
+        "image xfer seg",
+        "image xfer seg copy more",
+        "image xfer seg ../x",
+        "image ccl faces seg",
+        "image xfer seg /tmp/copy",
+        "image xfer gs://seg copy",
+        "image xfer seg seg",
+        "image xfer seg .copy",
+        "image xfer seg a/-b",
+        "image xfer seg copy --mip",
+        "image xfer seg copy --shape 0,1,1",
+        "image xfer seg copy --encoding raw",
+        long.as_str(),
+    ] {
+        let files = layer(alloc, INFO, &SEVEN)?;
+        let done = run(&rt, alloc, text, files, no_fails(alloc), 1000)?;
+        expect(&rt, &done, 2, "", "igneous: the words are not a command\n");
+        assert_eq!(rt; done.store.steps().len(), 0, "at {text}");
+    }
+    Ok(())
 }
 
 #[test]
@@ -192,7 +186,7 @@ fn a_text_that_is_no_info_is_malformed(rt: HostRuntime) -> Result<(), Failed> {
         &done,
         5,
         "",
-        "igneous: malformed seg/info unsupported info\n",
+        "igneous: malformed seg/info member type\n",
     );
     Ok(())
 }

@@ -1,3 +1,4 @@
+use Rattle.ig_cli.proofs.Completes.{complete}
 use Rattle.ig_cli.proofs.Performs.{fault_at, outcome}
 use Rattle.ig_cli.proofs.Promises.{copied, in_order, in_sequence, is_a_status, only_puts, printed, printed_part, refused_judged, to_the_refusal, told_refusal}
 use Rattle.ig_cli.proofs.command.igneous.Goals as goal
@@ -7,6 +8,10 @@ returns-clause-statuses g c = is_a_status _ _ c.report.ensures.status
 
 pub returns-clause-refused : goal.returns-clause-refused
 returns-clause-refused g c = λ tells. refused_judged _ _ _ c.report.ensures.status (fault_at _ _ _ _ (c.perform-outcome.ensures.performed tells))
+
+pub returns-clause-complete : goal.returns-clause-complete
+returns-clause-complete g c = λ tells.
+    complete _ _ _ _ _ _ _ _ _ c.report.ensures.status c.perform-outcome.ensures.words (c.perform-outcome.ensures.performed tells) c.perform-outcome.ensures.cause c.report.ensures.nine
 
 pub returns-clause-copied : goal.returns-clause-copied
 returns-clause-copied g c = λ tells. copied _ _ _ _ _ c.report.ensures.status (outcome _ _ _ _ (c.perform-outcome.ensures.performed tells))

@@ -1,4 +1,4 @@
-use Rattle.std.proofs.Common.{ap}
+use Rattle.std.proofs.Common.{ap, refl}
 use Rattle.ig_meaning.specs.Refusal as refusal
 use Rattle.ig_cli.specs.Making.{ending_of_make}
 use Rattle.ig_cli.proofs.Reports.{tells_refusal}
@@ -20,3 +20,23 @@ returns-in-DestNotEmpty c =
     tells_refusal (refusal.NotEmpty c.as_str-in-DestNotEmpty.result.now) (refusal.NotEmpty c.in-DestNotEmpty.path) _ _
     (ap (λ p. refusal.NotEmpty p) c.as_str-in-DestNotEmpty.ensures.value)
     (ap ending_of_make c.in-DestNotEmpty.is) (c.refused-in-DestNotEmpty.ensures _ c.not_empty.ensures)
+
+pub returns-in-NoScale : goal.returns-in-NoScale
+returns-in-NoScale c =
+    tells_refusal (refusal.NoScale c.in-NoScale.mip c.in-NoScale.count) (refusal.NoScale c.in-NoScale.mip c.in-NoScale.count) _ _ refl
+    (ap ending_of_make c.in-NoScale.is) (c.refused-in-NoScale.ensures (refusal.NoScale c.in-NoScale.mip c.in-NoScale.count) c.no_scale.ensures)
+
+pub returns-in-ShapeUnfit : goal.returns-in-ShapeUnfit
+returns-in-ShapeUnfit c =
+    tells_refusal (refusal.ShapeUnfit c.in-ShapeUnfit.axis) (refusal.ShapeUnfit c.in-ShapeUnfit.axis) _ _ refl
+    (ap ending_of_make c.in-ShapeUnfit.is) (c.refused-in-ShapeUnfit.ensures (refusal.ShapeUnfit c.in-ShapeUnfit.axis) c.shape_unfit.ensures)
+
+pub returns-in-TooManyTasks : goal.returns-in-TooManyTasks
+returns-in-TooManyTasks c =
+    tells_refusal (refusal.TooManyTasks c.in-TooManyTasks.count) (refusal.TooManyTasks c.in-TooManyTasks.count) _ _ refl
+    (ap ending_of_make c.in-TooManyTasks.is) (c.refused-in-TooManyTasks.ensures (refusal.TooManyTasks c.in-TooManyTasks.count) c.too_many_tasks.ensures)
+
+pub returns-in-TaskTooLarge : goal.returns-in-TaskTooLarge
+returns-in-TaskTooLarge c =
+    tells_refusal (refusal.TaskTooLarge c.in-TaskTooLarge.voxels) (refusal.TaskTooLarge c.in-TaskTooLarge.voxels) _ _ refl
+    (ap ending_of_make c.in-TaskTooLarge.is) (c.refused-in-TaskTooLarge.ensures (refusal.TaskTooLarge c.in-TaskTooLarge.voxels) c.task_too_large.ensures)

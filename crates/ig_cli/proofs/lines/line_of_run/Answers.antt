@@ -1,6 +1,7 @@
 use Rattle.std.proofs.Common.{ap}
 use Rattle.ig_meaning.specs.Refusal as refusal
-use Rattle.ig_cli.specs.Running.{cause_of, ending_of_run}
+use Rattle.ig_cutout.specs.Inputs.{cause_of}
+use Rattle.ig_cli.specs.Running.{ending_of_run}
 use Rattle.ig_cli.proofs.Reports.{tells_refusal}
 use Rattle.ig_cli.proofs.lines.line_of_run.Goals as goal
 

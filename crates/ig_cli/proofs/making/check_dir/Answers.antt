@@ -6,7 +6,7 @@ use Rattle.ig_cli.proofs.making.check_dir.Goals as goal
 pub returns-in_err-name_in-in-Some-clause-looks : goal.returns-in_err-name_in-in-Some-clause-looks
 returns-in_err-name_in-in-Some-clause-looks g c = λ tells.
     let p = err_from_is_err_and c.from_residual-in_err-name_in-in-Some.result c.from_residual-in_err-name_in-in-Some.ensures.1 in
-    looks_memory _ _ _ _ _ _ _ p.1 p.2 (tt, tt) (c.in_ok-given.ensures.did tells)
+    looks_memory _ _ _ _ _ _ _ p.1 p.2 (tt, tt) ((c.in_ok-given.ensures.did tells).1, tt) (c.in_ok-given.ensures.did tells).0
 
 pub returns-in-Some-clause-looks : goal.returns-in-Some-clause-looks
 returns-in-Some-clause-looks g c = λ tells.

@@ -1,0 +1,71 @@
+-- Where nothing keeps a command from running and no count of faults rises, it ends at 0 or 7.
+use Rattle.std.proofs.Common.{◌≡◌, ℕ, List, Option, None, Some, Result, refl, ap, sym, ◌∙◌, subst, inl, inr, ◌⊎◌}
+use Rattle.ig_defs.specs.Causes.{Rose}
+use Rattle.ig_defs.specs.Files.{Files}
+use Rattle.ig_defs.specs.Log.{Log, files_of}
+use Rattle.ig_defs.specs.Own.{put_all}
+use Rattle.ig_meaning.specs.Call.{IsReady}
+use Rattle.ig_meaning.specs.Ending.{Finished, Refuses, StoreFailed, NoMemory}
+use Rattle.ig_meaning.specs.Fault.{making_of_copy}
+use Rattle.ig_meaning.specs.Plan.{stage_of_command}
+use Rattle.ig_meaning.specs.Refusal.{Refusal}
+use Rattle.ig_meaning.specs.Stage.{Stage, info_files, sequential}
+use Rattle.ig_meaning.specs.Words.{Command, command_of}
+use Rattle.ig_cli.specs.declared.report.CommandError.{CommandError}
+use Rattle.ig_cli.specs.Did.{moments_from}
+use Rattle.ig_cli.specs.Making.{ending_of_make}
+use Rattle.ig_cli.specs.Performed.{Performed, JudgesWords, not_words, not_read, not_made, was_run}
+use Rattle.ig_cli.specs.Report.{Ended, Ends, NotWords, IsStatusOf, ended_of}
+use Rattle.ig_cli.proofs.Performs.{WasRun, ends_same, refused_making, was_run_as}
+use Rattle.ig_cli.proofs.Ready.{ready_not_refused}
+
+-- the same stage has the same run
+same_run : (s t : Stage) (files after : Files) → Some s ≡ Some t → sequential s (put_all files (info_files s.info)) ≡ None
+    → sequential t (put_all files (info_files t.info)) ≡ Some after → ⊥
+same_run s t files after same none some =
+    let is : s ≡ t = cc in
+    let no_run : sequential t (put_all files (info_files t.info)) ≡ None = subst (λ x. sequential x (put_all files (info_files x.info)) ≡ None) is none in
+    let no_way : None ≡ Some after = sym no_run ∙ some in cc
+
+run_not_refused : (words : List (List ℕ)) (old new : Log) (r : Refusal) → IsReady words (files_of old) → WasRun words old new (Refuses r) → ⊥
+run_not_refused words old new r ready w = same_run w.stage ready.stage (files_of old) ready.after (sym w.planned ∙ ready.planned) w.run.refused ready.runs
+
+-- such a command does not refuse
+never_refuses : (words : List (List ℕ)) (old new : Log) (result : Result ℕ CommandError) (r : Refusal) → IsReady words (files_of old) → Performed words old new result
+    → ended_of result ≡ Ends (Refuses r) → ⊥
+never_refuses words old new result r ready (not_words is none did) e = let no_way : NotWords ≡ Ends (Refuses r) = sym is ∙ e in cc
+never_refuses words old new result r ready (not_read is did) e = let no_way : Ends NoMemory ≡ Ends (Refuses r) = sym is ∙ e in cc
+never_refuses words old new result r ready (not_made request error is asked looks) e =
+    let ends : ending_of_make error ≡ Refuses r = ends_same (ending_of_make error) (Refuses r) (sym (ap ended_of is) ∙ e) in
+    ready_not_refused words (files_of old) request looks.acts r ready asked looks.quiet looks.truly
+    (refused_making (making_of_copy request) (moments_from (files_of old) looks.acts) (ending_of_make error) r looks.made ends)
+never_refuses words old new result r ready (was_run request stage mid ending is asked planned looks runs tasks) e =
+    run_not_refused words old new r ready
+    (subst (WasRun words old new) (ends_same ending (Refuses r) (sym is ∙ e)) (was_run_as words old mid new request stage ending asked planned looks runs))
+
+-- and its words are a command's
+has_command : (command : Option Command) (files : Files) (s : Stage) → stage_of_command command files ≡ Some s → command ≡ None → ⊥
+has_command None files s planned none = let no_way : ⊥ = cc in absurd no_way
+has_command (Some command) files s planned none = let no_way : ⊥ = cc in absurd no_way
+
+-- the statuses that are left
+left : (ended : Ended) (status : ℕ) → IsStatusOf ended status → (ended ≡ NotWords → ⊥) → ((r : Refusal) → ended ≡ Ends (Refuses r) → ⊥) → (ended ≡ Ends StoreFailed → ⊥)
+    → (status ≡ 9 → ⊥) → (status ≡ 0) ⊎ (status ≡ 7)
+left NotWords status is words refuses store out = absurd (words refl)
+left (Ends Finished) status (inl is) words refuses store out = inl is
+left (Ends Finished) status (inr (inl is)) words refuses store out = inr is
+left (Ends Finished) status (inr (inr is)) words refuses store out = absurd (out is)
+left (Ends (Refuses r)) status is words refuses store out = absurd (refuses r refl)
+left (Ends StoreFailed) status is words refuses store out = absurd (store refl)
+left (Ends NoMemory) status is words refuses store out = inr is
+
+pub complete : (words : List (List ℕ)) (old new : Log) (result : Result ℕ CommandError) (status store_before store_now out_before out_now : ℕ)
+    → IsStatusOf (ended_of result) status → JudgesWords words (ended_of result) → Performed words old new result
+    → (ended_of result ≡ Ends StoreFailed → Rose store_before store_now) → (status ≡ 9 → Rose out_before out_now)
+    → IsReady words (files_of old) → ¬ Rose store_before store_now → ¬ Rose out_before out_now → (status ≡ 0) ⊎ (status ≡ 7)
+complete words old new result status store_before store_now out_before out_now is judges performed store_failed out_failed ready store_quiet out_quiet =
+    left (ended_of result) status is
+    (λ not_words. has_command (command_of words) (files_of old) ready.stage ready.planned (judges.not_words not_words))
+    (λ r. never_refuses words old new result r ready performed)
+    (λ failed. store_quiet (store_failed failed))
+    (λ nine. out_quiet (out_failed nine))

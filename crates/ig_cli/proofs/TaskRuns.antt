@@ -1,0 +1,129 @@
+-- What a task makes of what was found of its inputs.
+use Rattle.std.proofs.Common.{arith, ◌≡◌, ℕ, zero, suc, Bool, true, false, if◌then◌else◌, List, [], ◌∷◌, ◌++◌, Option, None, Some, is_none, option_map, map, refl, sym, ap, subst, ◌∙◌}
+use Rattle.std.proofs.lemmas.List.{append-nil}
+use Rattle.ig_space.specs.declared.place.Place.{Place}
+use Rattle.ig_space.specs.Chunks.{listed}
+use Rattle.ig_defs.specs.Own.{File}
+use Rattle.ig_layer.specs.Faults.{Fault, first_fault, first_of, or_else}
+use Rattle.ig_layer.specs.Layer.{Reading, volume_at}
+use Rattle.ig_layer.specs.Texts.{files_in}
+use Rattle.ig_meaning.specs.Copies.{IsCopy}
+use Rattle.ig_meaning.specs.Refusal as refusal
+use Rattle.ig_meaning.specs.Refusal.{Refusal, refusal_of}
+use Rattle.ig_meaning.specs.Stage as meaning
+use Rattle.ig_meaning.specs.Stage.{absent_in, first_absent, input_count, input_path, inputs_of, task_box, task_files, task_refusal}
+use Rattle.ig_cutout.specs.declared.types.Input.{Input}
+use Rattle.ig_cutout.specs.declared.types.Output.{Output}
+use Rattle.ig_cutout.specs.declared.error.CutError.{CutError}
+use Rattle.ig_cutout.specs.declared.error.CutError.TheVariants as cut
+use Rattle.ig_cutout.specs.Inputs.{HoldsAll, Says, paths_of}
+use Rattle.ig_cutout.specs.Outputs.{output_of}
+use Rattle.ig_cli.specs.declared.stage.Stage.{Stage}
+use Rattle.ig_cli.specs.Stages.{CanRun, shown, shown_info}
+use Rattle.ig_cli.specs.Tasks.{MakesFiles, RefusesTask, missing_path, run_error_of}
+
+-- a stage that can be run is a copy
+pub copy_of : (s : Stage) → CanRun s → IsCopy (shown s) s.dest (shown_info s.info)
+copy_of s can =
+    let d = can.draft in
+    record {
+      dests = refl;
+      has_info = refl;
+      source_fits = d.source_fits;
+      dest_fits = d.dest_fits;
+      source_raw = d.source_raw;
+      dest_raw = d.dest_raw;
+      offset = d.offset;
+      size = d.size;
+      width = d.width;
+      source_short = d.source_short;
+      dest_short = d.dest_short;
+      apart = d.apart;
+      info_apart = d.info_apart;
+      fit = can.fit;
+      shape = (d.x_shape, d.y_shape, d.z_shape);
+    }
+
+-- ---- the first input that was not found
+-- the first of the paths where nothing is
+first_in : (List ℕ → Option (List ℕ)) → List (List ℕ) → Option (List ℕ)
+first_in files [] = None
+first_in files (path ∷ paths) = if is_none (files path) then Some path else first_in files paths
+
+missing_in_files : (files : Reading) (inputs : List Input) → HoldsAll files inputs → missing_path inputs ≡ first_in files (paths_of inputs)
+unfolding first_in
+missing_in_files files [] holds = refl
+missing_in_files files (input ∷ inputs) holds =
+    ap (λ found. if is_none found then Some input.path else missing_path inputs) (sym (holds 0 input (omega arith)))
+    ∙ ap (λ rest. if is_none (files input.path) then Some input.path else rest) (missing_in_files files inputs (λ k d below. holds (suc k) d (omega (arith, below))))
+
+or_first : (b : Bool) (path : List ℕ) (rest more : Option (List ℕ)) → or_else (if b then Some path else rest) more ≡ (if b then Some path else or_else rest more)
+or_first true path rest more = refl
+or_first false path rest more = refl
+
+first_in-append : (files : Reading) (paths more : List (List ℕ)) → first_in files (paths ++ more) ≡ or_else (first_in files paths) (first_in files more)
+unfolding first_in
+first_in-append files [] more = refl
+first_in-append files (path ∷ paths) more =
+    ap (λ rest. if is_none (files path) then Some path else rest) (first_in-append files paths more) ∙ sym (or_first (is_none (files path)) path (first_in files paths) (first_in files more))
+
+mapped_or : (f : List ℕ → Refusal) (a b : Option (List ℕ)) → option_map f (or_else a b) ≡ or_else (option_map f a) (option_map f b)
+mapped_or f (Some x) b = refl
+mapped_or f None b = refl
+
+absent_one : (path : List ℕ) (found : Option (List ℕ)) → absent_in path found ≡ option_map (λ p. refusal.Missing p) (if is_none found then Some path else None)
+absent_one path None = refl
+absent_one path (Some bytes) = refl
+
+first_of-listed : (files : Reading) (f : ℕ → List ℕ) (n : ℕ) → first_of (λ i. absent_in (f i) (files (f i))) n ≡ option_map (λ p. refusal.Missing p) (first_in files (listed f n))
+unfolding first_in
+first_of-listed files f zero = refl
+first_of-listed files f (suc n) =
+    ap (λ first. or_else first (absent_in (f n) (files (f n)))) (first_of-listed files f n)
+    ∙ ap (λ last. or_else (option_map (λ p. refusal.Missing p) (first_in files (listed f n))) last) (absent_one (f n) (files (f n)))
+    ∙ sym (mapped_or (λ p. refusal.Missing p) (first_in files (listed f n)) (first_in files (f n ∷ [])))
+    ∙ ap (option_map (λ p. refusal.Missing p)) (sym (first_in-append files (listed f n) (f n ∷ [])))
+
+module _ (s : meaning.Stage) (k : ℕ) (files : Reading) (inputs : List Input) (holds : HoldsAll files inputs) (paths : paths_of inputs ≡ inputs_of s k) where
+  absent-missing : first_absent s k files ≡ option_map (λ p. refusal.Missing p) (missing_path inputs)
+  absent-missing =
+      first_of-listed files (input_path s k) (input_count s k)
+      ∙ ap (λ all. option_map (λ p. refusal.Missing p) (first_in files all)) (sym paths)
+      ∙ ap (option_map (λ p. refusal.Missing p)) (sym (missing_in_files files inputs holds))
+
+  pub refused-missing : (path : List ℕ) → missing_path inputs ≡ Some path → task_refusal s k files ≡ Some (refusal.Missing path)
+  refused-missing path e =
+      ap (λ first. or_else first (option_map refusal_of (first_fault s.source (task_box s k) files))) (absent-missing ∙ ap (option_map (λ p. refusal.Missing p)) e)
+
+  -- where all were found, the refusal is the first fault
+  pub refused-fault : missing_path inputs ≡ None → task_refusal s k files ≡ option_map refusal_of (first_fault s.source (task_box s k) files)
+  refused-fault e =
+      ap (λ first. or_else first (option_map refusal_of (first_fault s.source (task_box s k) files))) (absent-missing ∙ ap (option_map (λ p. refusal.Missing p)) e)
+
+says_refuses : (e : CutError) (fault : Option Fault) → Says e fault → RefusesTask (run_error_of e) (option_map refusal_of fault)
+says_refuses (cut.Missing path) fault says = ap (option_map refusal_of) says
+says_refuses (cut.Malformed path cause) fault says = ap (option_map refusal_of) says
+says_refuses cut.Memory fault says = tt
+
+pub refused-cut : (s : meaning.Stage) (k : ℕ) (files : Reading) (inputs : List Input) (e : CutError) → HoldsAll files inputs → paths_of inputs ≡ inputs_of s k → missing_path inputs ≡ None
+    → Says e (first_fault s.source (task_box s k) files) → RefusesTask (run_error_of e) (task_refusal s k files)
+refused-cut s k files inputs e holds paths found says =
+    subst (RefusesTask (run_error_of e)) (sym (refused-fault s k files inputs holds paths found)) (says_refuses e (first_fault s.source (task_box s k) files) says)
+
+-- ---- the files of a task
+mapped_some : (o : Option (List File)) (outputs : List Output) → option_map (map output_of) o ≡ Some outputs → (made : List File) × (o ≡ Some made) × (outputs ≡ map output_of made)
+mapped_some None outputs e = let no_way : ⊥ = cc in absurd no_way
+mapped_some (Some made) outputs e = (made, refl, cc)
+
+pub makes_files : (s : meaning.Stage) (dest : Place) (k : ℕ) (files : Reading) (inputs : List Input) (outputs : List Output) → s.dests ≡ dest ∷ [] → HoldsAll files inputs → paths_of inputs ≡ inputs_of s k
+    → missing_path inputs ≡ None → first_fault s.source (task_box s k) files ≡ None
+    → option_map (map output_of) (files_in dest (meaning.wanted_volume s.kind (volume_at files s.source)) (task_box s k)) ≡ Some outputs → MakesFiles s k files outputs
+makes_files s dest k files inputs outputs one holds paths found sound cut =
+    let p = mapped_some (files_in dest (meaning.wanted_volume s.kind (volume_at files s.source)) (task_box s k)) outputs cut in
+    record {
+      fine = refused-fault s k files inputs holds paths found ∙ ap (option_map refusal_of) sound;
+      made = p.0;
+      are = ap (λ dests. meaning.files_of_dests dests (meaning.wanted_volume s.kind (volume_at files s.source)) (task_box s k)) one
+          ∙ ap (λ made. meaning.appended made (Some [])) p.1 ∙ ap Some (append-nil p.0);
+      put = p.2;
+    }

@@ -1,0 +1,11 @@
+-- So far the first tasks were run.
+use Rattle.std.proofs.Common.{◌≡◌, ◌≤◌}
+use Rattle.ig_cli.specs.Pipeline.{local_rule}
+use Rattle.ig_cli.specs.Running.{RunsSome}
+use Rattle.ig_cli.specs.Stages.{shown}
+use Rattle.ig_cli.proofs.running.run.Given as goal
+
+abbrev pub invariant-loop-task : goal.invariant-loop-task
+invariant-loop-task g l =
+    (g.S.Store.rule l.store ≡ local_rule) × (g.S.Store.faults l.fn.store ≤ g.S.Store.faults l.store)
+    × (g.S.Store.tells → RunsSome (shown l.stage) (g.S.Store.log l.fn.store) (g.S.Store.log l.store) l.task)
