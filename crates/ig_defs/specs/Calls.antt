@@ -1,6 +1,6 @@
 -- What each call of a store adds to the log as its own acts, by its result, the files at its entry and the steps of
 -- others before it.
-use Rattle.std.specs.Prelude.{◌≡◌, ◌⊎◌, ◌≤◌, ℕ, Bool, List, [], ◌∷◌, Option, is_some, IsErrOf, Contains, Result, Ok, Err}
+use Rattle.std.specs.Prelude.{◌≡◌, ◌⊎◌, ◌≤◌, ℕ, Bool, true, false, List, [], ◌∷◌, Option, is_some, IsErrOf, Contains, Result, Ok, Err}
 use Rattle.std.specs.List.Sorted.{IsStrictlySortedBy}
 use Rattle.std.specs.Ordering.{nat_cmp}
 use Rattle.std.specs.Cmp.Lexicographic.{slice_cmp}
@@ -46,3 +46,17 @@ abbrev pub TakesPut : List ℕ → List ℕ → Result (Unit {0}) StoreError →
 TakesPut path bytes (Ok done) files others acts = acts ≡ act.Put path bytes ∷ []
 TakesPut path bytes (Err Failed) files others acts = (acts ≡ []) ⊎ (acts ≡ act.Put path bytes ∷ [])
 TakesPut path bytes (Err Memory) files others acts = acts ≡ []
+
+-- a move is made where the file is there, and else it is a look at it
+abbrev pub TakesShift : List ℕ → List ℕ → Result Bool StoreError → Files → List Step → List Act → Type 0
+TakesShift from to (Ok true) files others acts = (acts ≡ act.Move from to ∷ []) × (is_some (map.get (replay files others) from) ≡ true)
+TakesShift from to (Ok false) files others acts = (acts ≡ act.Read from ∷ []) × (is_some (map.get (replay files others) from) ≡ false)
+TakesShift from to (Err Failed) files others acts = (acts ≡ []) ⊎ (acts ≡ act.Move from to ∷ []) × (is_some (map.get (replay files others) from) ≡ true)
+TakesShift from to (Err Memory) files others acts = acts ≡ []
+
+-- and so is a removal
+abbrev pub TakesRemove : List ℕ → Result Bool StoreError → Files → List Step → List Act → Type 0
+TakesRemove path (Ok true) files others acts = (acts ≡ act.Remove path ∷ []) × (is_some (map.get (replay files others) path) ≡ true)
+TakesRemove path (Ok false) files others acts = (acts ≡ act.Read path ∷ []) × (is_some (map.get (replay files others) path) ≡ false)
+TakesRemove path (Err Failed) files others acts = (acts ≡ []) ⊎ (acts ≡ act.Remove path ∷ []) × (is_some (map.get (replay files others) path) ≡ true)
+TakesRemove path (Err Memory) files others acts = acts ≡ []

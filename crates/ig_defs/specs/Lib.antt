@@ -6,3 +6,5 @@ pub mod Causes
 pub mod Calls
 pub mod Own
 pub mod Puts
+pub mod QueueNames
+pub mod QueueNameLaws

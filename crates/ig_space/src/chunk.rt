@@ -108,6 +108,7 @@ fn is_box(area: Box3) -> bool
 /// The box of the chunk with this name; `None` exactly where no box has it.
 pub fn parse_chunk_name(text: &str) -> Option<Box3>
     ensures some { IfSome result (λ area. IsBox area × (text.now ≡ chunk_name_of area)) }
+    ensures back { (area : Box3) → IsBox area → text.now ≡ chunk_name_of area → IfSome result (λ found. found ≡ area) }
     ensures none { IsNone result → (area : Box3) → IsBox area → text.now ≢ chunk_name_of area }
 {
     let area = parse_spans(text)?;

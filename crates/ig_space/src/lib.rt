@@ -28,7 +28,8 @@ pub use path::{Path, is_path_text};
 pub use place::Place;
 pub use point::{Box3, Point};
 pub use raw::{
-    RawError, WrongLength, bytes_each, raw_decode, raw_encode, read_labels, write_labels,
+    RawError, WrongLength, bytes_each, first_too_wide, raw_decode, raw_encode, read_labels,
+    write_labels,
 };
 pub use segment::is_segment_text;
 pub use task_id::TaskId;

@@ -54,7 +54,7 @@ fn largest_label(width: Width) -> u64
 }
 
 /// Where the first label stands that doesn't fit the width.
-fn first_too_wide(labels: &[u64], width: Width) -> Option<usize>
+pub fn first_too_wide(labels: &[u64], width: Width) -> Option<usize>
     ensures fit { IsNone result → AllFit width labels.now }
     ensures wide { IfSome result (IsFirstTooWide width labels.now) }
 {
