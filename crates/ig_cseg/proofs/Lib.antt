@@ -15,3 +15,15 @@ mod Spans
 mod Tables
 mod Volumes
 mod Writes
+mod WorkedTexts
+mod Listing
+mod Texts
+mod DistinctOrder
+mod Rising
+mod Lookups
+mod Runs
+mod Gathers
+mod IndexRows
+mod IndexWords
+mod HeaderWrites
+mod BlockWords

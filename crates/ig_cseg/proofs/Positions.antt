@@ -1,7 +1,6 @@
 -- The positions of the voxels of a clipped block.
-use Rattle.std.proofs.Common.{arith, ◌≡◌, ◌≤◌, ◌<◌, ◌+◌, ◌-◌, ◌*◌, ◌/◌, ◌%◌, ℕ, ap, ◌∙◌}
-use Rattle.std.proofs.Math.Nat.{mul_comm}
-use Rattle.std.proofs.lemmas.Nat.{div-mul-add, mod-mul-add, mul-le}
+use Rattle.std.proofs.Common.{arith, ◌≡◌, ◌≤◌, ◌<◌, ◌+◌, ◌-◌, ◌*◌, ℕ, ap}
+use Rattle.std.proofs.lemmas.Nat.{mul-le}
 use Rattle.ig_space.specs.declared.point.Point.{Point}
 use Rattle.ig_space.specs.Geometry.{count}
 use Rattle.ig_space.specs.Grid.{point_at}
@@ -9,25 +8,8 @@ use Rattle.ig_space.specs.Volume.{place_of}
 use Rattle.ig_space.specs.Points.{point_at-inside}
 use Rattle.ig_cseg.specs.Cseg.{position_in}
 use Rattle.ig_cseg.specs.Blocks.{IsClip, last_position}
-use Rattle.ig_cseg.proofs.Spans.{place-below}
-
-pub row_of : (x w r : ℕ) → x < w → (x + w * r) / w ≡ r
-row_of x w r l =
-    let e : x + w * r ≡ r * w + x = omega (arith, mul_comm w r) in
-    ap (λ n. n / w) e ∙ div-mul-add r w x l
-
-pub column_of : (x w r : ℕ) → x < w → (x + w * r) % w ≡ x
-column_of x w r l =
-    let e : x + w * r ≡ r * w + x = omega (arith, mul_comm w r) in
-    ap (λ n. n % w) e ∙ mod-mul-add r w x l
-
--- the point with the number of a point is that point
-pub point_at-place_of : (size : Point) (x y z : ℕ) → x < size.x → y < size.y → point_at size (place_of size x y z) ≡ record { x = x; y = y; z = z }
-point_at-place_of size x y z a b =
-    let row : place_of size x y z / size.x ≡ y + size.y * z = row_of x size.x (y + size.y * z) a in
-    let ey = ap (λ n. n % size.y) row ∙ column_of y size.y z b in
-    let ez = ap (λ n. n / size.y) row ∙ row_of y size.y z b in
-    λ i. record { x = column_of x size.x (y + size.y * z) a i; y = ey i; z = ez i }
+use Rattle.ig_cseg.specs.Places.{place-below}
+pub use Rattle.ig_cseg.specs.Places.{column_of, point_at-place_of, row_of}
 
 -- places rise with each coordinate
 place-most : (size : Point) (x y z a b c : ℕ) → x ≤ a → y ≤ b → z ≤ c → place_of size x y z ≤ place_of size a b c

@@ -6,7 +6,7 @@ use Rattle.ig_cseg.specs.Blocks.{IsClip, corner, row_count, row_place, row_posit
 use Rattle.ig_cseg.specs.Cseg.{entry}
 use Rattle.ig_cseg.specs.Labels.{IsRight, label_of}
 use Rattle.ig_cseg.proofs.RowLabels.{row_label}
-use Rattle.ig_cseg.proofs.Writes.{Written, written}
+use Rattle.ig_cseg.proofs.Writes.{Filled, filled}
 use borrow.Author.Count.{below_more}
 use borrow.Rule.Slice.PartMut.{put_mid}
 
@@ -20,13 +20,13 @@ part_length a m xs h =
 pub row_written : (n : ℕ) (size block lo clip : Point) (bytes : List ℕ) (b row a q : ℕ) (xs ys : List ℕ) → IsClip size block lo clip → lo ≡ corner size block b → row < row_count clip
     → a ≡ row_place size lo clip row → q ≡ row_position block clip row → a + clip.x ≤ length xs → length ys ≡ length (take (a + clip.x - a) (drop a xs))
     → ((k : ℕ) → k < length (take (a + clip.x - a) (drop a xs)) → slice_index ys k ≡ entry n bytes b (q + k))
-    → Written n block size bytes xs (put_mid a (a + clip.x - a) xs ys) (row_place size lo clip row) clip.x
+    → Filled (label_of n block size bytes) xs (put_mid a (a + clip.x - a) xs ys) (row_place size lo clip row) clip.x
 row_written n size block lo clip bytes b row a q xs ys h e below at from room long each =
     let part = part_length a clip.x xs room in
     let right : (i : ℕ) → i < clip.x → slice_index ys i ≡ label_of n block size bytes (a + i) = λ i l.
     each i (omega (arith, part, l)) ∙ ap (λ q. entry n bytes b (q + i)) from ∙ sym (ap (λ k. label_of n block size bytes (k + i)) at ∙ row_label n size block lo clip bytes b row i h e below l) in
-    subst (λ p. Written n block size bytes xs (put_mid a (a + clip.x - a) xs ys) p clip.x) at
-    (written n block size bytes a (a + clip.x - a) clip.x xs ys (omega arith) (long ∙ part) room right)
+    subst (λ p. Filled (label_of n block size bytes) xs (put_mid a (a + clip.x - a) xs ys) p clip.x) at
+    (filled (label_of n block size bytes) a (a + clip.x - a) clip.x xs ys (omega arith) (long ∙ part) room right)
 
 -- the rows of a block before this one and no right label lost
 pub record RowsRight (n : ℕ) (size block lo clip : Point) (bytes first xs : List ℕ) (done : ℕ) : Type 0 where
@@ -35,7 +35,7 @@ pub record RowsRight (n : ℕ) (size block lo clip : Point) (bytes first xs : Li
   pub rows : (r : ℕ) → r < done → (x : ℕ) → x < clip.x → IsRight n block size bytes xs (row_place size lo clip r + x)
 
 pub rows_right-more : (n : ℕ) (size block lo clip : Point) (bytes first xs ws : List ℕ) (rows : ℕ) → RowsRight n size block lo clip bytes first xs rows
-    → Written n block size bytes xs ws (row_place size lo clip rows) clip.x → RowsRight n size block lo clip bytes first ws (rows + 1)
+    → Filled (label_of n block size bytes) xs ws (row_place size lo clip rows) clip.x → RowsRight n size block lo clip bytes first ws (rows + 1)
 rows_right-more n size block lo clip bytes first xs ws rows before w = record {
   length = w.length ∙ before.length;
   kept = λ k right. w.kept k (before.kept k right);

@@ -1,10 +1,11 @@
 -- The rows of a clipped block lie in the volume, and their positions in the block.
 use Rattle.std.proofs.Common.{arith, ◌≤◌, ◌<◌, ◌+◌, ◌-◌, ◌*◌, ◌/◌, ◌%◌, ℕ, subst}
 use Rattle.std.proofs.Math.Nat.{mod-lt, mul_comm}
-use Rattle.std.proofs.lemmas.Nat.{div_below, mul-add-lt}
+use Rattle.std.proofs.lemmas.Nat.{div_below}
 use Rattle.ig_space.specs.declared.point.Point.{Point}
 use Rattle.ig_space.specs.Geometry.{count}
 use Rattle.ig_space.specs.Volume.{place_of}
+pub use Rattle.ig_cseg.specs.Places.{place-below}
 use Rattle.ig_cseg.specs.Blocks.{IsClip, last_position, row_count, row_place, row_position}
 
 -- a row by its two numbers
@@ -18,13 +19,6 @@ row_in clip row some below =
       y = mod-lt row some;
       z = div_below row clip.y clip.z some (subst (λ n. row < n) (mul_comm clip.y clip.z) below);
     }
-
--- a voxel of a box stands among its labels
-pub place-below : (size : Point) (x y z : ℕ) → x < size.x → y < size.y → z < size.z → place_of size x y z < count size
-place-below size x y z a b c =
-    let rows : z * size.y + y < size.y * size.z = mul-add-lt z size.y y size.z c b in
-    let all : (y + size.y * z) * size.x + x < size.x * (size.y * size.z) = mul-add-lt (y + size.y * z) size.x x (size.y * size.z) (omega (arith, mul_comm size.y z, rows)) a in
-    omega (arith, mul_comm size.x (y + size.y * z), all)
 
 -- so do as many voxels along x as lie in the box
 pub places-below : (size : Point) (x y z n : ℕ) → 1 ≤ n → x + n ≤ size.x → y < size.y → z < size.z → place_of size x y z + n ≤ count size

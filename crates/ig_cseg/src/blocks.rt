@@ -89,6 +89,15 @@ impl Clip {
         }
     }
 
+    /// How many positions a whole block has.
+    pub(crate) fn positions(&self) -> usize
+        requires { IsClip self.now.volume self.now.block self.now.lo self.now.size }
+        ensures value { result ≡ count self.now.block }
+        ensures few { result ≤ 2 ^ 22 }
+    {
+        (self.block.x * (self.block.y * self.block.z)) as usize
+    }
+
     /// How many rows along x it has.
     pub(crate) fn rows(&self) -> usize
         requires { IsClip self.now.volume self.now.block self.now.lo self.now.size }

@@ -1,9 +1,12 @@
 //! The header of a block.
-ghost use Rattle.std.specs.Prelude.{◌≡◌, ◌≤◌, ◌<◌, ◌+◌, ◌*◌, ◌/◌, ◌^◌};
+ghost use Rattle.std.specs.Prelude.{◌≡◌, ◌≤◌, ◌<◌, ◌+◌, ◌*◌, ◌/◌, ◌++◌, ◌^◌, ◌∷◌, [], drop, length, take};
+ghost use Rattle.ig_space.specs.Raw.{raw_text};
+ghost use Rattle.ig_space.specs.declared.geometry.Width.TheVariants.{W32};
 ghost use Rattle.ig_cseg.specs.Blocks.{IsHeader};
 ghost use Rattle.ig_cseg.specs.Cseg.{channel, entry_place, index_at, is_lawful, word_count};
 
 use crate::words::word;
+use byteorder::{ByteOrder, LittleEndian};
 
 /// What the two words of a block's header say. Places count in words from the begin of the file.
 #[derive(Clone, Copy)]
@@ -66,4 +69,18 @@ impl Header {
     {
         self.table + N * self.index(bytes, position)
     }
+}
+
+/// Writes the header of a block of a channel that begins at word 1: its number, where its table is, how many bits an
+/// index has, and where its values are, both in words from the begin of the channel.
+pub(crate) fn write_header(text: &mut [u8], block: usize, table: usize, bits: usize, values: usize)
+    requires within { 4 * (2 * block + 3) ≤ length text.old }
+    requires table { table < 2 ^ 24 }
+    requires bits { bits ≤ 32 }
+    requires values { values < 2 ^ 32 }
+    ensures { text.new ≡ take (4 * (2 * block + 1)) text.old ++ (raw_text W32 ((table + 2 ^ 24 * bits) ∷ values ∷ []) ++ drop (4 * (2 * block + 3)) text.old) }
+{
+    let place = 4 * (2 * block + 1);
+    LittleEndian::write_u32(&mut text[place..], (bits << 24 | table) as u32);
+    LittleEndian::write_u32(&mut text[place + 4..], values as u32);
 }

@@ -1,17 +1,27 @@
-//! Labels of one chunk in Neuroglancer's compressed_segmentation, of one channel.
-//!
-//! Each call has one exact answer; none takes memory.
+//! Labels of one chunk in Neuroglancer's compressed_segmentation, of one channel, both ways: `decode` reads every lawful
+//! layout and takes no memory, `encode` writes one.
 #![tactic(auto)]
 
 mod blocks;
 mod check;
 mod decoder;
+#[cfg(test)]
+mod encode_tests;
+mod encoder;
+mod error;
 mod fault;
+mod gather;
 mod header;
+mod indexing;
+mod pack;
+mod parts;
+mod table;
 #[cfg(test)]
 mod tests;
 mod unpack;
 mod words;
 
 pub use decoder::decode;
+pub use encoder::{encode, encode_fitting};
+pub use error::EncodeError;
 pub use fault::CsegFault;
