@@ -44,7 +44,7 @@ inputs-path place area inputs k d paths below =
     ∙ get_or-listed (chunk_in place area) (cell_count (hull (chunks_of place.geometry) area)) k d.path (omega arith)
 
 -- ---- no chunk is larger than the step
-side-few : (lo hi step i : ℕ) → min (lo + (i + 1) * step) hi - (lo + i * step) ≤ step
+pub side-few : (lo hi step i : ℕ) → min (lo + (i + 1) * step) hi - (lo + i * step) ≤ step
 side-few lo hi step i = let e : (i + 1) * step ≡ i * step + step = omega arith in omega arith
 
 pub cell-few : (g : Grid) (k : ℕ) → count (size_of (cell g k)) ≤ count g.step
@@ -52,7 +52,7 @@ cell-few g k =
     let i = point_at (counts g) k in
     mul-le-mul (side-few g.space.lo.x g.space.hi.x g.step.x i.x) (mul-le-mul (side-few g.space.lo.y g.space.hi.y g.step.y i.y) (side-few g.space.lo.z g.space.hi.z g.step.z i.z))
 
-pub chunk-few : (place : Place) (area : Box3) (k : ℕ) → geometry_fits place.geometry ≡ true → count (size_of (chunk_at place area k)) ≤ 2 ^ 24
+pub chunk-few : (place : Place) (area : Box3) (k : ℕ) → geometry_fits place.geometry ≡ true → count (size_of (chunk_at place area k)) ≤ 2 ^ 21
 chunk-few place area k fits =
     omega (arith, cell-few (hull (chunks_of place.geometry) area) k, (Fits-from place.geometry fits).few)
 

@@ -4,24 +4,23 @@ use Rattle.std.specs.Option.{option_map}
 use Rattle.std.proofs.lemmas.List.{map-append}
 use Rattle.ig_space.specs.declared.point.Box3.{Box3}
 use Rattle.ig_space.specs.declared.geometry.Geometry.{Geometry}
-use Rattle.ig_space.specs.declared.geometry.Encoding.TheVariants.{Raw}
 use Rattle.ig_space.specs.declared.place.Place.{Place}
 use Rattle.ig_space.specs.Chunk.{chunk_path}
-use Rattle.ig_space.specs.Raw.{AllFit, raw_text}
+use Rattle.ig_space.specs.Grid.{size_of}
+use Rattle.ig_space.specs.Raw.{AllFit}
 use Rattle.ig_defs.specs.Own.{File}
 use Rattle.ig_layer.specs.Listed.{all_fit-from}
-use Rattle.ig_layer.specs.Texts.{all_listed, chunk_file, chunk_text, file_if, labels_in, text_of, with_last}
+use Rattle.ig_layer.specs.Texts.{all_listed, chunk_file, chunk_text, file_if, labels_in, text_in, text_of, with_last}
 use Rattle.ig_cutout.specs.declared.types.Output.{Output}
 use Rattle.ig_cutout.specs.Gathered.{part_of}
 use Rattle.ig_cutout.specs.Outputs.{output_of}
 use Rattle.ig_cutout.proofs.Parts.{IsPartOf, labels_in-part, part-fit}
 
 -- the text of a part of an area
-pub chunk_text-part : (g : Geometry) (volume : ℕ → ℕ → ℕ → Option ℕ) (area part : Box3) (labels : List ℕ) → g.encoding ≡ Raw → IsPartOf area part labels → AllFit g.width labels
-    → labels_in volume area ≡ Some labels → chunk_text g volume part ≡ Some (raw_text g.width (part_of area part labels))
-chunk_text-part g volume area part labels raw is fit all =
-    ap (text_of g.encoding g.width) (labels_in-part volume area part labels is all)
-    ∙ ap (λ e. text_of e g.width (Some (part_of area part labels))) raw
+pub chunk_text-part : (g : Geometry) (volume : ℕ → ℕ → ℕ → Option ℕ) (area part : Box3) (labels : List ℕ) → IsPartOf area part labels → AllFit g.width labels
+    → labels_in volume area ≡ Some labels → chunk_text g volume part ≡ Some (text_in g.encoding g.width (size_of part) (part_of area part labels))
+chunk_text-part g volume area part labels is fit all =
+    ap (text_of g.encoding g.width (size_of part)) (labels_in-part volume area part labels is all)
     ∙ (rw (all_fit-from g.width (part_of area part labels) (part-fit g.width area part labels is fit)) refl)
 
 -- the output that puts it

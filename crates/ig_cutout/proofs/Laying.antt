@@ -81,6 +81,12 @@ pub fit-mid : (width : Width) (to k : ℕ) (mid row : List ℕ) → length row �
 fit-mid width to k mid row long within old new =
     λ j below. fit_at width to k j mid row long within old new (omega (arith, below, length-mid to k mid row long within)) (cases_lt j to) (cases_lt j (to + k))
 
+-- and so do those of a row that was copied
+pub fit-row : (width : Width) (from : ℕ) (source row : List ℕ) → AllFit width source → from + length row ≤ length source
+    → ((k : ℕ) → k < length row → slice_index row k ≡ slice_index source (from + k)) → AllFit width row
+fit-row width from source row fit room each =
+    λ k below. subst (FitsWidth width) (sym (each k below)) (fit (from + k) (omega (arith, room, below)))
+
 -- labels of no row, and of all
 pub laid-all : (number : ℕ → ℕ) (s t : Layout) (n m m' : ℕ) (old new : List ℕ) → m ≡ m' → IsLaid number s t (sized n m 1) old new → IsLaid number s t (sized n m' 1) old new
 laid-all number s t n m m' old new same laid = subst (λ (y : ℕ). IsLaid number s t (sized n y 1) old new) same laid

@@ -4,6 +4,7 @@ pub mod Places
 pub mod Pasting
 pub mod Moved
 pub mod Chunks
+pub mod Fitting
 pub mod FirstFault
 pub mod Assembling
 pub mod Gathering

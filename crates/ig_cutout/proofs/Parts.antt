@@ -2,13 +2,14 @@
 use Rattle.std.proofs.Common.{arith, ◌≡◌, ◌≤◌, ◌<◌, ◌+◌, ◌-◌, ◌*◌, ◌⊎◌, inl, inr, ℕ, zero, suc, List, [], ◌∷◌, ◌++◌, length, take, slice_index, Option, None, Some, refl, ap, sym, ◌∙◌, subst, length-append}
 use Rattle.std.proofs.Math.Nat.{mul-le-mul_left, eq-or-lt_of_le}
 use Rattle.std.proofs.Math.Seq.{take-length}
+use Rattle.std.proofs.lemmas.Grind.{same_number_lists}
 use Rattle.std.proofs.lemmas.List.{get_or-append_right, get_or_append_left}
 use Rattle.ig_space.specs.declared.point.Point.{Point}
 use Rattle.ig_space.specs.declared.point.Box3.{Box3}
 use Rattle.ig_space.specs.declared.geometry.Width.{Width}
 use Rattle.ig_space.specs.Cells.{number-below, point_at-is}
 use Rattle.ig_space.specs.Geometry.{count}
-use Rattle.ig_space.specs.Grid.{IsIn, IsWithin, point_at, size_of}
+use Rattle.ig_space.specs.Grid.{IsIn, IsWithin, Meets, point_at, size_of}
 use Rattle.ig_space.specs.Points.{place_of-point_at, point_at-inside}
 use Rattle.ig_space.specs.Raw.{AllFit, FitsWidth}
 use Rattle.ig_layer.specs.Listed.{all_listed-is}
@@ -16,7 +17,7 @@ use Rattle.ig_layer.specs.Texts.{all_listed, label_by_number, labels_in, with_la
 use Rattle.ig_cutout.specs.declared.layout.Layout.{Layout}
 use Rattle.ig_cutout.specs.Area.{HasRoom, at_plane, layout_of, place_in}
 use Rattle.ig_cutout.specs.Gathered.{part_of, planes_of, rows_of}
-use Rattle.ig_cutout.specs.Pasted.{place_at}
+use Rattle.ig_cutout.specs.Pasted.{IsCopied, place_at}
 use Rattle.ig_cutout.proofs.Gathering.{length-planes, rows-item}
 use Rattle.ig_cutout.proofs.Places.{in-inside, layout-place, layout-room, numbered, within-in}
 use Rattle.ig_cutout.proofs.Rows.{plane-room}
@@ -131,6 +132,42 @@ part-item area part labels k is below =
     (sym (ap (λ n. place_in (layout_of area part) n (part.lo.y + p.y - part.lo.y) (part.lo.z + p.z - part.lo.z)) ex
     ∙ ap (λ n. place_in (layout_of area part) p.x n (part.lo.z + p.z - part.lo.z)) ey ∙ ap (λ n. place_in (layout_of area part) p.x p.y n) ez)
     ∙ layout-place area part (part.lo.x + p.x) (part.lo.y + p.y) (part.lo.z + p.z) is.within v.in_box)
+
+low-in : (part area : Box3) → IsWithin part area → IsIn part part.lo.x part.lo.y part.lo.z
+low-in part area within = record {
+  x_from = omega arith;
+  x_to = within.x_some;
+  y_from = omega arith;
+  y_to = within.y_some;
+  z_from = omega arith;
+  z_to = within.z_some;
+}
+
+-- labels that were copied from the area are those of the part
+pub part-copied : (area part : Box3) (labels old new : List ℕ) → IsPartOf area part labels → length old ≡ count (size_of part) → IsCopied (slice_index labels) part area old new
+    → new ≡ part_of area part labels
+part-copied area part labels old new is long copied =
+    let size = size_of part in
+    let own = part-length area part labels is in
+    same_number_lists new (part_of area part labels) (copied.long ∙ long ∙ sym own)
+    (λ k below.
+    let p = point_at size k in
+    let within : k < count size = omega (arith, below, copied.long, long) in
+    let v = numbered part k is.within.x_some is.within.y_some within in
+    let in_area = within-in part area (part.lo.x + p.x) (part.lo.y + p.y) (part.lo.z + p.z) is.within v.in_box in
+    ap (slice_index new) (sym v.place)
+    ∙ copied.inside (part.lo.x + p.x) (part.lo.y + p.y) (part.lo.z + p.z) v.in_box in_area
+    ∙ sym (part-item area part labels k is within))
+
+-- a part of an area has a voxel in common with it
+pub part-meets : (area part : Box3) → IsWithin part area → Meets area part
+part-meets area part within = record {
+  x = part.lo.x;
+  y = part.lo.y;
+  z = part.lo.z;
+  in_left = within-in part area part.lo.x part.lo.y part.lo.z within (low-in part area within);
+  in_right = low-in part area within;
+}
 
 pub part-fit : (width : Width) (area part : Box3) (labels : List ℕ) → IsPartOf area part labels → AllFit width labels → AllFit width (part_of area part labels)
 part-fit width area part labels is fit =

@@ -1,10 +1,12 @@
 //! Boxes of labels from the files of chunks, and back: `assemble` makes the labels of a box from what was found of the
 //! chunks that meet it, and `cut_chunks` makes the chunks of a box from its labels.
 //!
-//! Rows go straight from the bytes of an input into the labels of the box, and from there into the bytes of an output.
+//! Rows go straight from the bytes of a raw input into the labels of the box, and from there into the bytes of a raw
+//! output. The labels of a compressed chunk stand in a list of their own in between.
 #![tactic(auto)]
 
 mod area;
+mod copy;
 mod cut;
 mod error;
 mod layout;

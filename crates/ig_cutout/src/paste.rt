@@ -1,22 +1,27 @@
 //! The labels of a box, from what was found of the chunks that meet it.
-ghost use Rattle.std.specs.Prelude.{◌≡◌, ◌≤◌, ◌^◌, true, length, Some, None, IfOk, OnOk, MatchResult};
+ghost use Rattle.std.specs.Prelude.{◌≡◌, ◌≤◌, ◌^◌, ℕ, true, length, Some, None, IfOk, OnOk, MatchResult};
 ghost use Rattle.ig_space.specs.Chunk.{chunk_path};
 ghost use Rattle.ig_space.specs.Chunks.{chunks_in};
-ghost use Rattle.ig_space.specs.Geometry.{count, geometry_fits};
+ghost use Rattle.ig_space.specs.Geometry.{count, encoding_fits, geometry_fits, is_wide, padded_to};
 ghost use Rattle.ig_space.specs.Grid.{IsWithin, Meets, size_of, space_of};
 ghost use Rattle.ig_space.specs.Raw.{AllFit};
-ghost use Rattle.ig_space.specs.declared.geometry.Encoding.TheVariants.{Raw};
+ghost use Rattle.ig_space.specs.Volume.{IsInside, voxel};
+ghost use Rattle.ig_cseg.specs.Cseg.{label_at};
+ghost use Rattle.ig_space.specs.declared.geometry.Encoding.TheVariants.{Raw, Cseg};
 ghost use Rattle.ig_layer.specs.Faults.{Absent, Damaged, cause_in, fault_in, first_fault};
 ghost use Rattle.ig_layer.specs.Layer.{Reading, volume_at};
 ghost use Rattle.ig_layer.specs.Texts.{labels_in};
-ghost use Rattle.ig_cutout.specs.Inputs.{HoldsAll, IsFaultOf, Says, cause_of, paths_of};
+ghost use Rattle.ig_cutout.specs.Inputs.{HoldsAll, IsFaultOf, Says, Tells, cause_of, paths_of};
 ghost use Rattle.ig_cutout.specs.Pasted.{IsAdded, IsAssembled, IsPasted};
 
 use crate::area::{common, count, size_of};
+use crate::copy::copy_common;
+use crate::error::TextError;
 use crate::layout::layout_of;
 use crate::read::read_planes;
 use crate::{Cause, CutError, Input, Inputs};
-use ig_space::{Box3, Geometry, Path, Place, TryClone, Volume, bytes_each};
+use ig_cseg::decode;
+use ig_space::{Box3, Encoding, Geometry, Path, Place, Point, TryClone, Volume, Width, bytes_each};
 use std::alloc::Global;
 
 /// The error that names a file that is missing.
@@ -39,8 +44,8 @@ fn malformed(path: &Path, cause: Cause) -> CutError
     }
 }
 
-/// Puts the labels that the text of the chunk has of the area among those of the area.
-fn paste_text(
+/// Puts the labels that a raw text has of the area among those of the area.
+fn paste_raw(
     geometry: &Geometry,
     area: Box3,
     chunk: Box3,
@@ -53,7 +58,7 @@ fn paste_text(
     requires few_in_chunk { count (size_of chunk) ≤ 2 ^ 24 }
     requires length { length labels.old ≡ count (size_of area) }
     ensures cause { MatchResult result (λ _. cause_in geometry.now.encoding geometry.now.width (size_of chunk) text.now ≡ None) (λ cause. cause_in geometry.now.encoding geometry.now.width (size_of chunk) text.now ≡ Some (cause_of cause)) }
-    ensures pasted { OnOk result (IsPasted geometry.now.width area chunk text.now labels.old labels.new) }
+    ensures pasted { OnOk result (IsPasted geometry.now.encoding geometry.now.width area chunk text.now labels.old labels.new) }
     ensures fit { AllFit geometry.now.width labels.old → AllFit geometry.now.width labels.new }
 {
     let width = geometry.width;
@@ -71,19 +76,77 @@ fn paste_text(
     Ok(())
 }
 
+/// The labels of a compressed text of a chunk of this size.
+fn unpack(
+    alloc: Global,
+    text: &[u8],
+    block: Point,
+    width: Width,
+    size: Point,
+) -> Result<Volume, TextError>
+    requires wide { is_wide width ≡ true }
+    requires x { 1 ≤ block.x }
+    requires y { 1 ≤ block.y }
+    requires z { 1 ≤ block.z }
+    requires few { count size ≤ 2 ^ 21 }
+    requires padded { count (padded_to size block) ≤ 2 ^ 22 }
+    ensures cause { MatchResult result (λ _. cause_in (Cseg block) width size text.now ≡ None) (λ e. Tells e (cause_in (Cseg block) width size text.now)) }
+    ensures size { IfOk result (λ v. v.size ≡ size) }
+    ensures labels { IfOk result (λ v. (x y z : ℕ) → IsInside size x y z → voxel v x y z ≡ label_at block width size text.now x y z) }
+    ensures fit { IfOk result (λ v. AllFit width v.labels) }
+{
+    let mut volume = Volume::zeros(alloc, size)?;
+    if let Err(fault) = decode(text, block, width, &mut volume) {
+        return Err(TextError::Malformed(Cause::Cseg(fault)));
+    }
+    Ok(volume)
+}
+
+/// Puts the labels that the text of the chunk has of the area among those of the area.
+fn paste_text(
+    alloc: Global,
+    geometry: &Geometry,
+    area: Box3,
+    chunk: Box3,
+    text: &[u8],
+    labels: &mut [u64],
+) -> Result<(), TextError>
+    requires fits { encoding_fits (size_of chunk) geometry.now.width geometry.now.encoding ≡ true }
+    requires meets { Meets chunk area }
+    requires few { count (size_of area) ≤ 2 ^ 24 }
+    requires few_in_chunk { count (size_of chunk) ≤ 2 ^ 21 }
+    requires length { length labels.old ≡ count (size_of area) }
+    ensures cause { MatchResult result (λ _. cause_in geometry.now.encoding geometry.now.width (size_of chunk) text.now ≡ None) (λ e. Tells e (cause_in geometry.now.encoding geometry.now.width (size_of chunk) text.now)) }
+    ensures pasted { OnOk result (IsPasted geometry.now.encoding geometry.now.width area chunk text.now labels.old labels.new) }
+    ensures fit { AllFit geometry.now.width labels.old → AllFit geometry.now.width labels.new }
+{
+    match geometry.encoding {
+        Encoding::Raw => match paste_raw(geometry, area, chunk, text, labels) {
+            Ok(()) => Ok(()),
+            Err(cause) => Err(TextError::Malformed(cause)),
+        },
+        Encoding::Cseg { block } => {
+            let volume = unpack(alloc, text, block, geometry.width, size_of(chunk))?;
+            copy_common(volume.labels(), chunk, labels, area);
+            Ok(())
+        }
+    }
+}
+
 /// Puts the labels that what was found of the chunk has of the area among those of the area.
 fn paste(
+    alloc: Global,
     place: &Place,
     area: Box3,
     chunk: Box3,
     input: &Input,
     labels: &mut [u64],
 ) -> Result<(), CutError>
-    requires raw { place.now.geometry.encoding ≡ Raw }
+    requires fits { encoding_fits (size_of chunk) place.now.geometry.width place.now.geometry.encoding ≡ true }
     requires path { input.now.path ≡ chunk_path place.now.dir chunk }
     requires meets { Meets chunk area }
     requires few { count (size_of area) ≤ 2 ^ 24 }
-    requires few_in_chunk { count (size_of chunk) ≤ 2 ^ 24 }
+    requires few_in_chunk { count (size_of chunk) ≤ 2 ^ 21 }
     requires length { length labels.old ≡ count (size_of area) }
     ensures fault { IsFaultOf result (fault_in place.now chunk input.now.found) }
     ensures added { OnOk result (IsAdded place.now.geometry area chunk input.now.found labels.old labels.new) }
@@ -91,17 +154,25 @@ fn paste(
 {
     match &input.found {
         None => Err(missing(&input.path)),
-        Some(text) => match paste_text(&place.geometry, area, chunk, text.as_bytes(), labels) {
-            Ok(()) => Ok(()),
-            Err(cause) => Err(malformed(&input.path, cause)),
-        },
+        Some(text) => {
+            match paste_text(alloc, &place.geometry, area, chunk, text.as_bytes(), labels) {
+                Ok(()) => Ok(()),
+                Err(TextError::Malformed(cause)) => Err(malformed(&input.path, cause)),
+                Err(TextError::Memory) => Err(CutError::Memory),
+            }
+        }
     }
 }
 
 /// Puts the labels of all inputs, in order, among those of the area.
-fn paste_all(place: &Place, area: Box3, inputs: &Inputs, labels: &mut [u64]) -> Result<(), CutError>
+fn paste_all(
+    alloc: Global,
+    place: &Place,
+    area: Box3,
+    inputs: &Inputs,
+    labels: &mut [u64],
+) -> Result<(), CutError>
     requires fits { geometry_fits place.now.geometry ≡ true }
-    requires raw { place.now.geometry.encoding ≡ Raw }
     requires within { IsWithin area (space_of place.now.geometry) }
     requires few { count (size_of area) ≤ 2 ^ 24 }
     requires paths { paths_of inputs.now ≡ chunks_in place.now area }
@@ -113,7 +184,7 @@ fn paste_all(place: &Place, area: Box3, inputs: &Inputs, labels: &mut [u64]) -> 
     let hull = place.geometry.chunks().hull(area);
     for (number, input) in inputs.as_slice().iter().enumerate() {
         let chunk = hull.cell(number as u64);
-        if let Err(error) = paste(place, area, chunk, input, labels) {
+        if let Err(error) = paste(alloc, place, area, chunk, input, labels) {
             return Err(error);
         }
     }
@@ -129,7 +200,6 @@ pub fn assemble(
     inputs: &Inputs,
 ) -> Result<Volume, CutError>
     requires fits { geometry_fits place.now.geometry ≡ true }
-    requires raw { place.now.geometry.encoding ≡ Raw }
     requires within { IsWithin area (space_of place.now.geometry) }
     requires short { length place.now.dir ≤ 300 }
     requires few { count (size_of area) ≤ 2 ^ 24 }
@@ -140,7 +210,7 @@ pub fn assemble(
     ensures fault { (files : Reading) → HoldsAll files inputs.now → IsFaultOf result (first_fault place.now area files) }
 {
     let mut volume = Volume::zeros(alloc, size_of(area))?;
-    match paste_all(place, area, inputs, volume.labels_mut()) {
+    match paste_all(alloc, place, area, inputs, volume.labels_mut()) {
         Ok(()) => Ok(volume),
         Err(error) => Err(error),
     }

@@ -1,11 +1,11 @@
 ghost use Rattle.std.specs.Prelude.{◌≡◌, ◌≤◌, ◌^◌, true, length, IfOk, IsTrue};
 ghost use Rattle.ig_space.specs.Chunks.{chunks_in};
-ghost use Rattle.ig_space.specs.declared.geometry.Encoding.TheVariants.{Raw};
 ghost use Rattle.ig_space.specs.Geometry.{count, geometry_fits};
 ghost use Rattle.ig_space.specs.Grid.{IsWithin, chunks_of as grid_of, hull, size_of, space_of};
 ghost use Rattle.ig_cutout.specs.Inputs.{paths_of};
 
 use crate::{Cause, CutError, Input, Inputs, Output, Outputs, assemble, cut_chunks};
+use ig_cseg::CsegFault;
 use ig_space::{Box3, Bytes, Encoding, Geometry, Path, Place, Point, TryClone, Width, chunks_of};
 use std::alloc::{AllocError, Global};
 use std::test::Fail;
@@ -19,7 +19,25 @@ enum Kind {
     Zeros,
     /// The second is too short, and the third is missing.
     Damaged,
+    /// Compressed labels.
+    Blocks,
+    /// The same, but the second lacks its last byte.
+    NotWords,
+    /// The same, but an index of the last block of the second has 3 bits.
+    BadBits,
 }
+
+/// Labels 7 5 and 5 5 in two blocks: the headers with 1 bit, place 5 of the table and place 4 of the indices, and with
+/// 0 bits and place 7 of both; the indices 1 and 0, and the table 5 7; the table 5.
+const FIRST: [u8; 36] = [
+    1, 0, 0, 0, 5, 0, 0, 1, 4, 0, 0, 0, 7, 0, 0, 0, 7, 0, 0, 0, 1, 0, 0, 0, 5, 0, 0, 0, 7, 0, 0, 0,
+    5, 0, 0, 0,
+];
+
+/// Labels 9 and 8 in two blocks, each with a table of one label.
+const SECOND: [u8; 28] = [
+    1, 0, 0, 0, 4, 0, 0, 0, 4, 0, 0, 0, 5, 0, 0, 0, 5, 0, 0, 0, 9, 0, 0, 0, 8, 0, 0, 0,
+];
 
 fn point(x: u64, y: u64, z: u64) -> Point
     ensures x { result.x ≡ x }
@@ -60,9 +78,7 @@ fn text_of(alloc: Global, labels: &[u64]) -> Result<Bytes, AllocError> {
 }
 
 /// A layer of four chunks.
-fn geometry() -> Geometry
-    ensures { result.encoding ≡ Raw }
-{
+fn geometry() -> Geometry {
     Geometry {
         offset: point(10, 20, 30),
         size: point(5, 3, 2),
@@ -70,6 +86,32 @@ fn geometry() -> Geometry
         width: Width::W16,
         encoding: Encoding::Raw,
     }
+}
+
+/// A layer of two compressed chunks, each of two blocks, of which those of the second are clipped.
+fn block_geometry() -> Geometry {
+    Geometry {
+        offset: point(10, 20, 30),
+        size: point(3, 2, 1),
+        chunk: point(2, 2, 1),
+        width: Width::W32,
+        encoding: Encoding::Cseg {
+            block: point(2, 1, 1),
+        },
+    }
+}
+
+/// The compressed text of the chunk with this number.
+fn block_text(alloc: Global, kind: Kind, number: usize) -> Result<Bytes, AllocError> {
+    if number == 0 {
+        return Bytes::of(alloc, FIRST.as_slice());
+    }
+    let mut second = SECOND;
+    if kind == Kind::BadBits {
+        second[15] = 3;
+    }
+    let long = if kind == Kind::NotWords { 27 } else { 28 };
+    Bytes::of(alloc, &second[..long])
 }
 
 /// The labels of the chunk with this number.
@@ -84,6 +126,9 @@ fn chunk_labels(alloc: Global, number: usize) -> Result<Vec<u64>, AllocError> {
 
 /// What is found of the chunk with this number.
 fn found_of(alloc: Global, kind: Kind, number: usize) -> Result<Option<Bytes>, AllocError> {
+    if matches!(kind, Kind::Blocks | Kind::NotWords | Kind::BadBits) {
+        return Ok(Some(block_text(alloc, kind, number)?));
+    }
     let mut labels = chunk_labels(alloc, number)?;
     if kind == Kind::Zeros {
         for label in labels.iter_mut() {
@@ -99,7 +144,7 @@ fn found_of(alloc: Global, kind: Kind, number: usize) -> Result<Option<Bytes>, A
     Ok(Some(text_of(alloc, labels.as_slice())?))
 }
 
-/// What is found at the paths of the four chunks.
+/// What is found at the paths of the chunks.
 fn inputs_of(alloc: Global, paths: &[Path], kind: Kind) -> Result<Inputs, AllocError>
     ensures { IfOk result (λ inputs. paths_of inputs ≡ paths.now) }
 {
@@ -112,7 +157,7 @@ fn inputs_of(alloc: Global, paths: &[Path], kind: Kind) -> Result<Inputs, AllocE
     Ok(inputs)
 }
 
-/// What is found of the chunks that meet the box, which meets all four.
+/// What is found of the chunks that meet the box, which meets all.
 fn found(alloc: Global, place: &Place, area: Box3, kind: Kind) -> Result<Inputs, AllocError>
     requires fits { geometry_fits place.now.geometry ≡ true }
     requires within { IsWithin area (space_of place.now.geometry) }
@@ -137,7 +182,6 @@ fn is_within(area: Box3, space: Box3) -> bool
 /// Whether the box is assembled with the labels by their coordinates.
 fn is_assembled(alloc: Global, place: &Place, area: Box3) -> Result<bool, Fail>
     requires fits { geometry_fits place.now.geometry ≡ true }
-    requires raw { place.now.geometry.encoding ≡ Raw }
     requires within { IsWithin area (space_of place.now.geometry) }
     requires short { length place.now.dir ≤ 300 }
     requires few { count (size_of area) ≤ 2 ^ 24 }
@@ -162,6 +206,76 @@ fn boxes_are_assembled(rt: HostRuntime) -> Result<(), Fail> {
         let area = Box3 { lo, hi };
         assert!(rt; is_within(area, geometry.chunks().space));
         assert!(rt; is_assembled(rt.alloc(), &place, area)?);
+    }
+    Ok(())
+}
+
+#[test]
+fn boxes_of_compressed_chunks_are_assembled(rt: HostRuntime) -> Result<(), Fail> {
+    let dir = Path::new(rt.alloc(), "2_2_2")?.ok_or("no path")?;
+    let geometry = block_geometry();
+    assert!(rt; geometry.fits());
+    assert!(rt; dir.len() <= 300);
+    let place = Place { dir, geometry };
+    for (lo, hi, wanted) in [
+        (
+            point(10, 20, 30),
+            point(13, 22, 31),
+            [7, 5, 9, 5, 5, 8].as_slice(),
+        ),
+        (
+            point(11, 20, 30),
+            point(13, 22, 31),
+            [5, 9, 5, 8].as_slice(),
+        ),
+    ] {
+        let area = Box3 { lo, hi };
+        assert!(rt; is_within(area, geometry.chunks().space));
+        let inputs = found(rt.alloc(), &place, area, Kind::Blocks)?;
+        let volume = assemble(rt.alloc(), &place, area, &inputs)?;
+        assert!(rt; volume.labels() == wanted);
+    }
+    Ok(())
+}
+
+/// Why the box has no labels, by a cause of its second chunk.
+fn cause_of_second(alloc: Global, place: &Place, area: Box3, kind: Kind) -> Result<Cause, Fail>
+    requires fits { geometry_fits place.now.geometry ≡ true }
+    requires within { IsWithin area (space_of place.now.geometry) }
+    requires short { length place.now.dir ≤ 300 }
+    requires few { count (size_of area) ≤ 2 ^ 24 }
+{
+    let inputs = found(alloc, place, area, kind)?;
+    match assemble(alloc, place, area, &inputs) {
+        Err(CutError::Malformed { path, cause }) => {
+            if path.as_str() == "2_2_2/12-13_20-22_30-31" {
+                Ok(cause)
+            } else {
+                Err("another path".into())
+            }
+        }
+        _ => Err("no fault".into()),
+    }
+}
+
+#[test]
+fn faults_of_compressed_chunks_are_named(rt: HostRuntime) -> Result<(), Fail> {
+    let dir = Path::new(rt.alloc(), "2_2_2")?.ok_or("no path")?;
+    let geometry = block_geometry();
+    assert!(rt; geometry.fits());
+    assert!(rt; dir.len() <= 300);
+    let place = Place { dir, geometry };
+    let area = Box3 {
+        lo: point(10, 20, 30),
+        hi: point(13, 22, 31),
+    };
+    assert!(rt; is_within(area, geometry.chunks().space));
+    for (kind, wanted) in [
+        (Kind::NotWords, CsegFault::NotWords),
+        (Kind::BadBits, CsegFault::BadBits { block: 1 }),
+    ] {
+        let cause = cause_of_second(rt.alloc(), &place, area, kind)?;
+        assert_eq!(rt; cause, Cause::Cseg(wanted));
     }
     Ok(())
 }
@@ -208,7 +322,6 @@ fn are_same(inputs: &[Input], outputs: &[Output]) -> bool {
 /// The chunks of the box, cut from labels that were assembled from these.
 fn cut_again(alloc: Global, place: &Place, area: Box3, kind: Kind) -> Result<Outputs, Fail>
     requires fits { geometry_fits place.now.geometry ≡ true }
-    requires raw { place.now.geometry.encoding ≡ Raw }
     requires within { IsWithin area (space_of place.now.geometry) }
     requires short { length place.now.dir ≤ 300 }
     requires few { count (size_of area) ≤ 2 ^ 24 }
@@ -239,6 +352,27 @@ fn chunks_are_cut_again(rt: HostRuntime) -> Result<(), Fail> {
         assert_eq!(rt; outputs.len(), 4);
         assert!(rt; are_same(inputs.as_slice(), outputs.as_slice()));
     }
+    Ok(())
+}
+
+#[test]
+fn compressed_chunks_are_cut_again(rt: HostRuntime) -> Result<(), Fail> {
+    let dir = Path::new(rt.alloc(), "2_2_2")?.ok_or("no path")?;
+    let geometry = block_geometry();
+    assert!(rt; geometry.fits());
+    assert!(rt; dir.len() <= 300);
+    let place = Place { dir, geometry };
+    let area = Box3 {
+        lo: point(10, 20, 30),
+        hi: point(13, 22, 31),
+    };
+    assert!(rt; is_within(area, geometry.chunks().space));
+    let space = geometry.chunks().hull(area).space;
+    assert!(rt; space == area);
+    let inputs = found(rt.alloc(), &place, area, Kind::Blocks)?;
+    let outputs = cut_again(rt.alloc(), &place, area, Kind::Blocks)?;
+    assert_eq!(rt; outputs.len(), 2);
+    assert!(rt; are_same(inputs.as_slice(), outputs.as_slice()));
     Ok(())
 }
 

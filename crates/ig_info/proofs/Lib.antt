@@ -2,6 +2,5 @@ pub mod Lists
 pub mod Parsed
 pub mod Ascends
 pub mod Limits
-pub mod Readable
 pub mod ReadBack
 pub mod NewLayer

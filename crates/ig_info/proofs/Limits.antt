@@ -197,7 +197,7 @@ IsInfo-from d width items scales whole few e shallow ordered same =
       some = omega arith;
       few = omega arith;
       fit = scales_after-fit width [] items scales e refl;
-      reads_back = λ can. same;
+      reads_back = same;
     }
 
 all_made : (d : Data) (head : Result Width InfoError) (items : Result Items InfoError) (scales : List Scale) → (head >>= λ w. items >>= λ ds. scales_after w [] ds) ≡ Ok scales

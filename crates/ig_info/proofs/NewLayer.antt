@@ -1,6 +1,6 @@
 -- The info of a new layer is one, and is read back.
 use Rattle.std.proofs.Common.{◌≡◌, ◌≤◌, ℕ, true, false, List, [], ◌∷◌, ◌++◌, refl, lit≤}
-use Rattle.std.proofs.lemmas.Bool.{and_from, and_parts}
+use Rattle.std.proofs.lemmas.Bool.{and_from}
 use Rattle.serde_json.specs.Data.{Data, depth}
 use Rattle.serde_json.specs.Read.{max_depth}
 use Rattle.serde_json.specs.Written.{has_float}
@@ -10,7 +10,7 @@ use Rattle.ig_info.specs.declared.scale.Scale.{Scale}
 use Rattle.ig_info.specs.Scale.{scale_fits}
 use Rattle.ig_info.specs.Dest.{scale_of_encoding, dest_members, dest_data, scale_data, width_word}
 use Rattle.ig_info.specs.Ascending.{ascends}
-use Rattle.ig_info.specs.Reading.{IsInfo, can_be_read}
+use Rattle.ig_info.specs.Reading.{IsInfo}
 use Rattle.ig_info.proofs.ReadBack.{dest_read_back}
 
 shallow : (w : List ℕ) (e : Encoding) (s : Scale) → depth (dest_members w (scale_of_encoding e s)) ≤ max_depth
@@ -33,7 +33,7 @@ dest-IsInfo s fits = record {
   some = lit≤ tt;
   few = lit≤ tt;
   fit = and_from (scale_fits s) _ fits refl;
-  reads_back = λ can. dest_read_back s ((and_parts (can_be_read s) _ can).0) fits;
+  reads_back = dest_read_back s fits;
 }
 
 -- the same, of equal members and a list that the scale was put on

@@ -1,8 +1,9 @@
--- The members of a new layer with raw chunks are read as its scale.
-use Rattle.std.proofs.Common.{◌≡◌, ◌≤◌, ℕ, ◌*◌, ◌^◌, ◌&&◌, nat_le, true, false, List, [], ◌∷◌, length, Some, Ok, codes, refl, sym, ap, subst, arith, lit≤}
-use Rattle.std.proofs.Math.Nat.{mul-le-mul_left, le_trans}
+-- The members of a new layer are read as its scale.
+use Rattle.std.proofs.Common.{◌≡◌, ◌≤◌, ℕ, ◌+◌, ◌-◌, ◌*◌, ◌/◌, ◌^◌, ◌&&◌, nat_le, Bool, true, false, List, [], ◌∷◌, length, Some, Ok, codes, refl, sym, ap, subst, arith, lit≤}
+use Rattle.std.proofs.Math.Nat.{mul-le-mul_left, le_trans, le-div_iff_mul-le}
 use Rattle.std.proofs.lemmas.Bool.{and_parts, and_from, leb-true, le-leb}
 use Rattle.serde_json.specs.Data.{Data, object, item, no_items, Members}
+use Rattle.serde_json.specs.Find.{get}
 use Rattle.serde_json.specs.Written.{has_float}
 use Rattle.ig_space.specs.declared.point.Point.{Point}
 use Rattle.ig_space.specs.declared.geometry.Geometry.{Geometry}
@@ -11,14 +12,14 @@ use Rattle.ig_space.specs.declared.geometry.Width.TheVariants.{W8, W16, W32, W64
 use Rattle.ig_space.specs.declared.geometry.Encoding.{Encoding}
 use Rattle.ig_space.specs.declared.geometry.Encoding.TheVariants.{Raw, Cseg}
 use Rattle.ig_space.specs.Path.{is_path, within}
-use Rattle.ig_space.specs.Geometry.{largest_place, largest_chunk, all_within, count, ends_within, geometry_fits, Fits-from}
+use Rattle.ig_space.specs.Geometry.{largest_place, largest_chunk, largest_padded, all_within, blocks_fit, count, encoding_fits, ends_within, geometry_fits, is_wide, padded, padded_to, Fits-from}
 use Rattle.ig_info.specs.declared.scale.Scale.{Scale}
 use Rattle.ig_info.specs.Parts.{side, triple, is_whole_triple}
 use Rattle.ig_info.specs.Scale.{scale_fits}
-use Rattle.ig_info.specs.Scales.{largest_side, triple_member, key_of, offset_of, chunk_of, encoding_of, geometry_of, scale_of}
+use Rattle.ig_info.specs.Scales.{largest_side, largest_block, is_absent_or_null, triple_member, key_of, offset_of, chunk_of, blocks_of, encoding_of, geometry_of, scale_of}
 use Rattle.ig_info.specs.Whole.{text_member, segmentation_only, width_of, one_channel, kind_of, head_of, items_of_scales, scales_of}
-use Rattle.ig_info.specs.Reading.{info_of, is_raw}
-use Rattle.ig_info.specs.Dest.{point_data, width_word, raw_members, dest_members, dest_data}
+use Rattle.ig_info.specs.Reading.{info_of}
+use Rattle.ig_info.specs.Dest.{point_data, width_word, raw_members, cseg_members, dest_members, dest_data}
 
 triple-data : (low high : ℕ) (p : Point) → all_within low high p ≡ true → triple low high (point_data p) ≡ Some p
 unfolding triple side
@@ -38,30 +39,49 @@ items-dest : (w : List ℕ) (ms : Members) → items_of_scales (dest_members w (
 unfolding items_of_scales
 items-dest w ms = refl
 
-key-dest : (key : List ℕ) (c r z o : Data) → is_path key ≡ true → nat_le (length key) 100 ≡ true → key_of [] (raw_members key c r z o) ≡ Ok key
+-- the members of a scale whose chunks are written so
+abbrev members_of : Encoding → List ℕ → Data → Data → Data → Data → Data
+members_of Raw key c r z o = raw_members key c r z o
+members_of (Cseg block) key c r z o = cseg_members key (point_data block) c r z o
+
+key-dest : (e : Encoding) (key : List ℕ) (c r z o : Data) → is_path key ≡ true → nat_le (length key) 100 ≡ true → key_of [] (members_of e key c r z o) ≡ Ok key
 unfolding key_of
-key-dest key c r z o p n = rw (p, n) refl
+key-dest Raw key c r z o p n = rw (p, n) refl
+key-dest (Cseg block) key c r z o p n = rw (p, n) refl
 
-size-dest : (key : List ℕ) (c r o : Data) (size : Point) (high : ℕ) → all_within 1 high size ≡ true → triple_member 0 (codes "size") 1 high (raw_members key c r (point_data size) o) ≡ Ok size
+size-dest : (e : Encoding) (key : List ℕ) (c r o : Data) (size : Point) (high : ℕ) → all_within 1 high size ≡ true → triple_member 0 (codes "size") 1 high (members_of e key c r (point_data size) o) ≡ Ok size
 unfolding triple_member
-size-dest key c r o size high h = rw (triple-data 1 high size h) refl
+size-dest Raw key c r o size high h = rw (triple-data 1 high size h) refl
+size-dest (Cseg block) key c r o size high h = rw (triple-data 1 high size h) refl
 
-resolution-dest : (key : List ℕ) (c z o : Data) (r : Point) (high : ℕ) → all_within 1 high r ≡ true → triple_member 0 (codes "resolution") 1 high (raw_members key c (point_data r) z o) ≡ Ok r
+resolution-dest : (e : Encoding) (key : List ℕ) (c z o : Data) (r : Point) (high : ℕ) → all_within 1 high r ≡ true
+    → triple_member 0 (codes "resolution") 1 high (members_of e key c (point_data r) z o) ≡ Ok r
 unfolding triple_member
-resolution-dest key c z o r high h = rw (triple-data 1 high r h) refl
+resolution-dest Raw key c z o r high h = rw (triple-data 1 high r h) refl
+resolution-dest (Cseg block) key c z o r high h = rw (triple-data 1 high r h) refl
 
-offset-dest : (key : List ℕ) (c r z : Data) (size o : Point) → all_within 0 largest_place o ≡ true → ends_within o size ≡ true
-    → offset_of 0 size (raw_members key c r z (point_data o)) ≡ Ok o
+offset-dest : (e : Encoding) (key : List ℕ) (c r z : Data) (size o : Point) → all_within 0 largest_place o ≡ true → ends_within o size ≡ true
+    → offset_of 0 size (members_of e key c r z (point_data o)) ≡ Ok o
 unfolding offset_of is_whole_triple
-offset-dest key c r z size o h e = rw (triple-data 0 largest_place o h, e) refl
+offset-dest Raw key c r z size o h e = rw (triple-data 0 largest_place o h, e) refl
+offset-dest (Cseg block) key c r z size o h e = rw (triple-data 0 largest_place o h, e) refl
 
-chunk-dest : (key : List ℕ) (c : Point) (r z o : Data) → all_within 1 largest_side c ≡ true → chunk_of 0 (raw_members key (point_data c) r z o) ≡ Ok c
+chunk-dest : (e : Encoding) (key : List ℕ) (c : Point) (r z o : Data) → all_within 1 largest_side c ≡ true → chunk_of 0 (members_of e key (point_data c) r z o) ≡ Ok c
 unfolding chunk_of
-chunk-dest key c r z o h = rw (triple-data 1 largest_side c h) refl
+chunk-dest Raw key c r z o h = rw (triple-data 1 largest_side c h) refl
+chunk-dest (Cseg block) key c r z o h = rw (triple-data 1 largest_side c h) refl
 
-encoding-dest : (w : Width) (key : List ℕ) (c r z o : Data) → encoding_of 0 w (raw_members key c r z o) ≡ Ok Raw
-unfolding encoding_of
-encoding-dest w key c r z o = refl
+-- what the reader asks of compressed labels
+abbrev is_read : Width → Encoding → Bool
+is_read w Raw = true
+is_read w (Cseg block) = is_wide w && all_within 1 largest_block block
+
+encoding-dest : (e : Encoding) (w : Width) (key : List ℕ) (c r z o : Data) → is_read w e ≡ true → encoding_of 0 w (members_of e key c r z o) ≡ Ok e
+unfolding encoding_of blocks_of triple_member
+encoding-dest Raw w key c r z o h = refl
+encoding-dest (Cseg block) w key c r z o h =
+    let p = and_parts (is_wide w) (all_within 1 largest_block block) h in
+    rw (p.0, triple-data 1 largest_block block p.1) refl
 
 -- ---- numbers
 
@@ -100,28 +120,34 @@ all_wider low a b p h w =
 
 -- ---- the geometry and the scale
 
-abbrev raw_geometry : Point → Point → Point → Width → Geometry
-raw_geometry offset size chunk width = record { offset = offset; size = size; chunk = chunk; width = width; encoding = Raw }
+abbrev made_geometry : Encoding → Point → Point → Point → Width → Geometry
+made_geometry e offset size chunk width = record { offset = offset; size = size; chunk = chunk; width = width; encoding = e }
 
-geometry-dest : (key : List ℕ) (r z : Data) (o size c : Point) (w : Width) → all_within 0 largest_place o ≡ true → ends_within o size ≡ true → all_within 1 largest_side c ≡ true
-    → geometry_fits (raw_geometry o size c w) ≡ true → geometry_of 0 w size (raw_members key (point_data c) r z (point_data o)) ≡ Ok (raw_geometry o size c w)
+geometry-dest : (e : Encoding) (key : List ℕ) (r z : Data) (o size c : Point) (w : Width) → all_within 0 largest_place o ≡ true → ends_within o size ≡ true → all_within 1 largest_side c ≡ true
+    → is_read w e ≡ true → geometry_fits (made_geometry e o size c w) ≡ true
+    → is_absent_or_null (get (codes "sharding") (members_of e key (point_data c) r z (point_data o))) ≡ true
+    → geometry_of 0 w size (members_of e key (point_data c) r z (point_data o)) ≡ Ok (made_geometry e o size c w)
 unfolding geometry_of
-geometry-dest key r z o size c w h e k fits =
-    rw (offset-dest key (point_data c) r z size o h e, chunk-dest key c r z (point_data o) k, encoding-dest w key (point_data c) r z (point_data o), fits) refl
+geometry-dest e key r z o size c w h ends k reads fits whole =
+    rw (offset-dest e key (point_data c) r z size o h ends, chunk-dest e key c r z (point_data o) k, encoding-dest e w key (point_data c) r z (point_data o) reads, whole, fits) refl
 
-abbrev raw_scale : List ℕ → Point → Point → Point → Point → Width → Scale
-raw_scale key resolution offset size chunk width = record { key = key; resolution = resolution; geometry = raw_geometry offset size chunk width }
+whole-dest : (e : Encoding) (key : List ℕ) (c r z o : Data) → is_absent_or_null (get (codes "sharding") (members_of e key c r z o)) ≡ true
+whole-dest Raw key c r z o = refl
+whole-dest (Cseg block) key c r z o = refl
 
-scale-dest : (key : List ℕ) (r o size c : Point) (w : Width) → is_path key ≡ true → nat_le (length key) 100 ≡ true → all_within 1 (2 ^ 32) r ≡ true → all_within 1 largest_place size ≡ true
-    → all_within 0 largest_place o ≡ true → ends_within o size ≡ true → all_within 1 largest_side c ≡ true → geometry_fits (raw_geometry o size c w) ≡ true
-    → scale_of w [] (raw_members key (point_data c) (point_data r) (point_data size) (point_data o)) ≡ Ok (raw_scale key r o size c w)
+abbrev made_scale : Encoding → List ℕ → Point → Point → Point → Point → Width → Scale
+made_scale e key resolution offset size chunk width = record { key = key; resolution = resolution; geometry = made_geometry e offset size chunk width }
+
+scale-dest : (e : Encoding) (key : List ℕ) (r o size c : Point) (w : Width) → is_path key ≡ true → nat_le (length key) 100 ≡ true → all_within 1 (2 ^ 32) r ≡ true → all_within 1 largest_place size ≡ true
+    → all_within 0 largest_place o ≡ true → ends_within o size ≡ true → all_within 1 largest_side c ≡ true → is_read w e ≡ true → geometry_fits (made_geometry e o size c w) ≡ true
+    → scale_of w [] (members_of e key (point_data c) (point_data r) (point_data size) (point_data o)) ≡ Ok (made_scale e key r o size c w)
 unfolding scale_of
-scale-dest key r o size c w p n a b h e k fits =
+scale-dest e key r o size c w p n a b h ends k reads fits =
     rw (
-      key-dest key (point_data c) (point_data r) (point_data size) (point_data o) p n,
-      size-dest key (point_data c) (point_data r) (point_data o) size largest_place b,
-      resolution-dest key (point_data c) (point_data size) (point_data o) r (2 ^ 32) a,
-      geometry-dest key (point_data r) (point_data size) o size c w h e k fits,
+      key-dest e key (point_data c) (point_data r) (point_data size) (point_data o) p n,
+      size-dest e key (point_data c) (point_data r) (point_data o) size largest_place b,
+      resolution-dest e key (point_data c) (point_data size) (point_data o) r (2 ^ 32) a,
+      geometry-dest e key (point_data r) (point_data size) o size c w h ends k reads fits (whole-dest e key (point_data c) (point_data r) (point_data size) (point_data o)),
     ) refl
 
 -- what a geometry that fits has, as the reader asks it
@@ -145,6 +171,46 @@ chunk-fits g h =
     let f = Fits-from g h in
     all_wider 1 largest_chunk largest_side g.chunk (lit≤ tt) (sides-within g.chunk largest_chunk f.x_step f.y_step f.z_step f.few)
 
+-- a block is no longer than a side that is made longer to whole blocks
+block-below : (side block : ℕ) → 1 ≤ side → 1 ≤ block → block ≤ padded side block
+block-below side block some step =
+    let one : 1 ≤ (side + (block - 1)) / block = (le-div_iff_mul-le {k = block} {x = 1} {y = side + (block - 1)} step).1 (omega (arith, some, step)) in
+    times_le ((side + (block - 1)) / block) block one
+
+narrower : (low n m high : ℕ) → low ≤ n → n ≤ m → within low high m ≡ true → within low high n ≡ true
+narrower low n m high some less w =
+    let p = and_parts (nat_le low m) (nat_le m high) w in
+    and_from _ _ (le-leb low n some) (le-leb n high (le_trans less (leb-true m high p.1)))
+
+block-small : (chunk block : Point) → 1 ≤ chunk.x → 1 ≤ chunk.y → 1 ≤ chunk.z → blocks_fit chunk block ≡ true → all_within 1 largest_block block ≡ true
+block-small chunk block x y z h =
+    let p = and_parts (nat_le 1 block.x && nat_le 1 block.y && nat_le 1 block.z) _ h in
+    let q = and_parts (nat_le 1 block.x && nat_le 1 block.y) (nat_le 1 block.z) p.0 in
+    let s = and_parts (nat_le 1 block.x) (nat_le 1 block.y) q.0 in
+    let bx = leb-true 1 block.x s.0 in
+    let by = leb-true 1 block.y s.1 in
+    let bz = leb-true 1 block.z q.1 in
+    let lx = block-below chunk.x block.x x bx in
+    let ly = block-below chunk.y block.y y by in
+    let lz = block-below chunk.z block.z z bz in
+    let few = leb-true (count (padded_to chunk block)) largest_padded p.1 in
+    let sides = sides-within (padded_to chunk block) largest_padded (le_trans bx lx) (le_trans by ly) (le_trans bz lz) few in
+    let xy = and_parts (within 1 largest_padded (padded chunk.x block.x) && within 1 largest_padded (padded chunk.y block.y)) (within 1 largest_padded (padded chunk.z block.z)) sides in
+    let xs = and_parts (within 1 largest_padded (padded chunk.x block.x)) (within 1 largest_padded (padded chunk.y block.y)) xy.0 in
+    all_inside 1 largest_block block (narrower 1 block.x (padded chunk.x block.x) largest_padded bx lx xs.0) (narrower 1 block.y (padded chunk.y block.y) largest_padded by ly xs.1)
+    (narrower 1 block.z (padded chunk.z block.z) largest_padded bz lz xy.1)
+
+encoding-read : (e : Encoding) (w : Width) (c : Point) → 1 ≤ c.x → 1 ≤ c.y → 1 ≤ c.z → encoding_fits c w e ≡ true → is_read w e ≡ true
+encoding-read Raw w c x y z h = refl
+encoding-read (Cseg block) w c x y z h =
+    let p = and_parts (is_wide w) (blocks_fit c block) h in
+    and_from _ _ p.0 (block-small c block x y z p.1)
+
+encoding-fits : (g : Geometry) → geometry_fits g ≡ true → is_read g.width g.encoding ≡ true
+encoding-fits g h =
+    let f = Fits-from g h in
+    encoding-read g.encoding g.width g.chunk f.x_step f.y_step f.z_step f.encoding
+
 -- ---- the info
 
 read-dest : (w : Width) (ms : Members) (s : Scale) → has_float (object ms) ≡ false → scale_of w [] (object ms) ≡ Ok s
@@ -153,29 +219,20 @@ unfolding info_of scales_of
 read-dest w ms s whole e = rw (head-dest w (object ms) whole, items-dest (width_word w) ms, e) refl
 
 abbrev IsReadBack : Scale → Type 0
-IsReadBack s = scale_fits s ≡ true → info_of (dest_data s) ≡ Ok (record { members = dest_data s; scales = s ∷ [] })
+IsReadBack s = info_of (dest_data s) ≡ Ok (record { members = dest_data s; scales = s ∷ [] })
 
-raw_read_back : (key : List ℕ) (r o size c : Point) (w : Width) → IsReadBack (raw_scale key r o size c w)
-raw_read_back key r o size c w fits =
+scale-read : (e : Encoding) (key : List ℕ) (r o size c : Point) (w : Width) → scale_fits (made_scale e key r o size c w) ≡ true
+    → scale_of w [] (members_of e key (point_data c) (point_data r) (point_data size) (point_data o)) ≡ Ok (made_scale e key r o size c w)
+scale-read e key r o size c w fits =
     let a = and_parts (is_path key) _ fits in
     let b = and_parts (nat_le (length key) 100) _ a.1 in
-    let d = and_parts (all_within 1 (2 ^ 32) r) (geometry_fits (raw_geometry o size c w)) b.1 in
-    let g = raw_geometry o size c w in
-    read-dest w _ (raw_scale key r o size c w) refl (scale-dest key r o size c w a.0 b.0 d.0 (size-fits g d.1) (offset-fits g d.1) (ends-fits g d.1) (chunk-fits g d.1) d.1)
+    let d = and_parts (all_within 1 (2 ^ 32) r) (geometry_fits (made_geometry e o size c w)) b.1 in
+    let g = made_geometry e o size c w in
+    scale-dest e key r o size c w a.0 b.0 d.0 (size-fits g d.1) (offset-fits g d.1) (ends-fits g d.1) (chunk-fits g d.1) (encoding-fits g d.1) d.1
 
-is_raw-Raw : (e : Encoding) → is_raw e ≡ true → e ≡ Raw
-is_raw-Raw Raw h = refl
-is_raw-Raw (Cseg block) h = absurd cc
+made_read_back : (e : Encoding) (key : List ℕ) (r o size c : Point) (w : Width) → scale_fits (made_scale e key r o size c w) ≡ true → IsReadBack (made_scale e key r o size c w)
+made_read_back Raw key r o size c w fits = read-dest w _ (made_scale Raw key r o size c w) refl (scale-read Raw key r o size c w fits)
+made_read_back (Cseg block) key r o size c w fits = read-dest w _ (made_scale (Cseg block) key r o size c w) refl (scale-read (Cseg block) key r o size c w fits)
 
-with_encoding : (s : Scale) → s.geometry.encoding ≡ Raw → s ≡ raw_scale s.key s.resolution s.geometry.offset s.geometry.size s.geometry.chunk s.geometry.width
-with_encoding s e =
-    let f : Encoding → Scale = λ n. record {
-      key = s.key;
-      resolution = s.resolution;
-      geometry = record { offset = s.geometry.offset; size = s.geometry.size; chunk = s.geometry.chunk; width = s.geometry.width; encoding = n };
-    } in
-    ap f e
-
-pub dest_read_back : (s : Scale) → is_raw s.geometry.encoding ≡ true → scale_fits s ≡ true → info_of (dest_data s) ≡ Ok (record { members = dest_data s; scales = s ∷ [] })
-dest_read_back s raw =
-    subst IsReadBack (sym (with_encoding s (is_raw-Raw s.geometry.encoding raw))) (raw_read_back s.key s.resolution s.geometry.offset s.geometry.size s.geometry.chunk s.geometry.width)
+pub dest_read_back : (s : Scale) → scale_fits s ≡ true → IsReadBack s
+dest_read_back s = made_read_back s.geometry.encoding s.key s.resolution s.geometry.offset s.geometry.size s.geometry.chunk s.geometry.width

@@ -1,14 +1,11 @@
 -- What the bytes of an info file give, and what each info is.
-use Rattle.std.specs.Prelude.{◌≡◌, ◌≤◌, ℕ, Bool, true, false, List, length, Result, Ok}
+use Rattle.std.specs.Prelude.{◌≡◌, ◌≤◌, ℕ, true, false, List, length, Result, Ok}
 use Rattle.std.specs.List.{list_all}
 use Rattle.serde_json.specs.Data.{Data, depth}
 use Rattle.serde_json.specs.Read.{max_depth}
 use Rattle.serde_json.specs.Written.{has_float}
-use Rattle.ig_space.specs.declared.geometry.Encoding.{Encoding}
-use Rattle.ig_space.specs.declared.geometry.Encoding.TheVariants.{Raw, Cseg}
 use Rattle.ig_info.specs.declared.error.InfoError.{InfoError}
 use Rattle.ig_info.specs.declared.error.InfoError.TheVariants.{NotJson}
-use Rattle.ig_info.specs.declared.scale.Scale.{Scale}
 use Rattle.ig_info.specs.Answer.{◌>>=◌, or_error}
 use Rattle.ig_info.specs.Ascending.{ascends}
 use Rattle.ig_info.specs.Info.{InfoData}
@@ -27,14 +24,6 @@ info_in bytes = do
   d ← or_error NotJson (parsed bytes)
   info_of d
 
-abbrev pub is_raw : Encoding → Bool
-is_raw Raw = true
-is_raw (Cseg block) = false
-
--- scales with compressed chunks are not read yet
-abbrev pub can_be_read : Scale → Bool
-can_be_read s = is_raw s.geometry.encoding
-
 -- nested no deeper than a text may be, only whole numbers, in the order of names, 1 to 100 scales that fit; and read again
 -- the members give the same info
 pub record IsInfo (i : InfoData) : Type 0 where
@@ -44,4 +33,4 @@ pub record IsInfo (i : InfoData) : Type 0 where
   pub some : 1 ≤ length i.scales
   pub few : length i.scales ≤ 100
   pub fit : list_all scale_fits i.scales ≡ true
-  pub reads_back : list_all can_be_read i.scales ≡ true → info_of i.members ≡ Ok i
+  pub reads_back : info_of i.members ≡ Ok i

@@ -69,15 +69,11 @@ blocks_of n d = do
   block ← triple_member n (codes "compressed_segmentation_block_size") 1 largest_block d
   Ok (Cseg block)
 
--- scales with compressed chunks are not handled yet
-abbrev pub reads_compressed : Bool
-reads_compressed = false
-
 unfoldable pub encoding_of : ℕ → Width → Data → Result Encoding InfoError
 encoding_of n width d = do
   word ← or_error (in_scale n (codes "encoding")) (option_and_then as_str (get (codes "encoding") d))
   if bytes_eq word (codes "raw") then Ok Raw
-      else if bytes_eq word (codes "compressed_segmentation") && is_wide width && reads_compressed then blocks_of n d
+      else if bytes_eq word (codes "compressed_segmentation") && is_wide width then blocks_of n d
       else Err (Unsupported (codes "encoding"))
 
 abbrev pub is_absent_or_null : Option Data → Bool

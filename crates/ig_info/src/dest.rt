@@ -10,8 +10,8 @@ use ig_space::{Encoding, List, Point, TryClone, Width};
 use serde_json::{Value, json};
 use std::alloc::{AllocError, Global};
 
-/// The three numbers of a point.
-fn point_value(alloc: Global, point: Point) -> Result<Value, AllocError>
+/// The three numbers of a point, as a list.
+pub fn point_value(alloc: Global, point: Point) -> Result<Value, AllocError>
     ensures { IfOk result (λ v. data_of v ≡ point_data point) }
 {
     json!(in alloc; [point.x, point.y, point.z])

@@ -4,7 +4,7 @@ ghost use Rattle.std.specs.List.{list_all};
 ghost use Rattle.serde_json.specs.Written.{compact_text};
 ghost use Rattle.ig_info.specs.Scale.{scale_fits};
 ghost use Rattle.ig_info.specs.Ascending.{ascends};
-ghost use Rattle.ig_info.specs.Reading.{can_be_read, info_in};
+ghost use Rattle.ig_info.specs.Reading.{info_in};
 
 use crate::Scale;
 use ig_space::{Bytes, List, TryClone};
@@ -86,7 +86,7 @@ impl TryClone for Info {
 pub fn write_info(alloc: Global, info: &Info) -> Result<Bytes, AllocError>
     ensures text { IfOk result (λ bytes. bytes ≡ compact_text info.now.members) }
     ensures ordered { ascends info.now.members ≡ true }
-    ensures reads_back { IfOk result (λ bytes. list_all can_be_read info.now.scales ≡ true → info_in bytes ≡ Ok info.now) }
+    ensures reads_back { IfOk result (λ bytes. info_in bytes ≡ Ok info.now) }
 {
     let text = info.members.to_string(alloc)?;
     Ok(Bytes::from_vec(text.into_bytes()))

@@ -20,8 +20,9 @@ mod scale;
 #[cfg(test)]
 mod tests;
 
-pub use dest::dest_info;
+pub use dest::{dest_info, point_value};
 pub use error::InfoError;
 pub use info::{Info, write_info};
+pub use parts::point_within;
 pub use read::read_info;
 pub use scale::Scale;

@@ -1,9 +1,14 @@
 ghost use Rattle.std.specs.Prelude.{◌≡◌};
 ghost use Rattle.serde_json.specs.View.{view};
+ghost use Rattle.ig_info.specs.Answer.{Gives};
+ghost use Rattle.ig_info.specs.Scales.{triple_member};
 ghost use Rattle.ig_info.specs.Parts.{side, triple, is_whole, whole_at, is_whole_triple};
 
+use crate::InfoError;
+use crate::refusal::found;
 use ig_space::Point;
 use serde_json::Value;
+use std::alloc::Global;
 
 /// The number at this place of a list, where it is within these limits.
 #[tactic(auto, unfolding(crate::specs::Parts::side))]
@@ -20,7 +25,7 @@ fn side_at(value: &Value, place: usize, low: u64, high: u64) -> Option<u64>
 
 /// A list of three numbers within these limits, as x, y and z.
 #[tactic(auto, unfolding(crate::specs::Parts::triple))]
-pub(crate) fn point_within(value: &Value, low: u64, high: u64) -> Option<Point>
+pub fn point_within(value: &Value, low: u64, high: u64) -> Option<Point>
     ensures { result ≡ triple low high (view value.now) }
 {
     let x = side_at(value, 0, low, high)?;
@@ -30,6 +35,24 @@ pub(crate) fn point_within(value: &Value, low: u64, high: u64) -> Option<Point>
         return None;
     }
     Some(Point { x, y, z })
+}
+
+/// The three numbers at this member of a scale.
+#[tactic(auto, unfolding(crate::specs::Scales::triple_member))]
+pub(crate) fn read_point(
+    alloc: Global,
+    value: &Value,
+    scale: usize,
+    name: &str,
+    limits: (u64, u64),
+) -> Result<Point, InfoError>
+    ensures { Gives (λ x. x) result (triple_member scale name.now limits.0 limits.1 (view value.now)) }
+{
+    let (low, high) = limits;
+    let point = value
+        .get(name)
+        .and_then(|list| point_within(list, low, high));
+    found(alloc, point, scale, name)
 }
 
 /// Whether this is a number and no float.

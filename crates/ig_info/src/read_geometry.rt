@@ -1,12 +1,13 @@
 ghost use Rattle.std.specs.Prelude.{◌≡◌, ◌^◌, codes};
 ghost use Rattle.serde_json.specs.View.{view, items_view};
 ghost use Rattle.serde_json.specs.Find.{get};
+ghost use Rattle.ig_space.specs.Geometry.{is_wide};
 ghost use Rattle.ig_info.specs.Answer.{Gives};
 ghost use Rattle.ig_info.specs.Parts.{all_triples};
-ghost use Rattle.ig_info.specs.Scales.{placed as placed_point, offset_in, offset_of, first_chunk, chunk_of, encoding_of, is_absent_or_null, geometry_of, largest_side};
+ghost use Rattle.ig_info.specs.Scales.{placed as placed_point, offset_in, offset_of, first_chunk, chunk_of, blocks_of, encoding_of, is_absent_or_null, geometry_of, largest_side};
 
 use crate::InfoError;
-use crate::parts::{are_three_whole, point_within};
+use crate::parts::{are_three_whole, point_within, read_point};
 use crate::refusal::{
     found, scale_error, scale_formed_if, supported, supported_if, unsupported_error,
 };
@@ -16,6 +17,9 @@ use std::alloc::Global;
 
 /// No side of a chunk is longer, in voxels.
 const LARGEST_SIDE: u64 = 1 << 24;
+
+/// No side of a block is longer, in voxels.
+const LARGEST_BLOCK: u64 = 1 << 22;
 
 /// The offset, where a scale of this size ends within the largest place.
 fn placed(size: Point, offset: Point) -> Option<Point>
@@ -96,6 +100,23 @@ fn read_chunk(alloc: Global, value: &Value, scale: usize) -> Result<Point, InfoE
     found(alloc, chunk, scale, "chunk_sizes")
 }
 
+/// Whether labels of this width can be compressed.
+fn is_wide(width: Width) -> bool
+    ensures { result ≡ is_wide width }
+{
+    matches!(width, Width::W32 | Width::W64)
+}
+
+/// The blocks that the chunks of a scale are compressed in.
+#[tactic(auto, unfolding(crate::specs::Scales::blocks_of))]
+fn read_blocks(alloc: Global, value: &Value, scale: usize) -> Result<Encoding, InfoError>
+    ensures { Gives (λ x. x) result (blocks_of scale (view value.now)) }
+{
+    let name = "compressed_segmentation_block_size";
+    let block = read_point(alloc, value, scale, name, (1, LARGEST_BLOCK))?;
+    Ok(Encoding::Cseg { block })
+}
+
 /// How the chunks of a scale are written.
 #[tactic(auto, unfolding(crate::specs::Scales::encoding_of))]
 fn read_encoding(
@@ -108,6 +129,7 @@ fn read_encoding(
 {
     match value.get("encoding").and_then(Value::as_str) {
         Some("raw") => Ok(Encoding::Raw),
+        Some("compressed_segmentation") if is_wide(width) => read_blocks(alloc, value, scale),
         Some(_) => Err(unsupported_error(alloc, "encoding")),
         None => Err(scale_error(alloc, scale, "encoding")),
     }

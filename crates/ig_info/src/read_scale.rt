@@ -2,34 +2,16 @@ ghost use Rattle.std.specs.Prelude.{◌≡◌, ◌^◌, Ok, codes, length, optio
 ghost use Rattle.serde_json.specs.Find.{get, as_str};
 ghost use Rattle.serde_json.specs.View.{view};
 ghost use Rattle.ig_info.specs.Answer.{Gives};
-ghost use Rattle.ig_info.specs.Scales.{triple_member, short_path, has_key, key_of, scale_of};
+ghost use Rattle.ig_info.specs.Scales.{short_path, has_key, key_of, scale_of};
 
-use crate::parts::point_within;
+use crate::parts::read_point;
 use crate::read_geometry::read_geometry;
 use crate::refusal::{found, supported_if};
 use crate::scale::{COARSEST, LONGEST_KEY};
 use crate::{InfoError, Scale};
-use ig_space::{LARGEST_PLACE, List, Path, Point, Width};
+use ig_space::{LARGEST_PLACE, List, Path, Width};
 use serde_json::Value;
 use std::alloc::Global;
-
-/// The three numbers at this member of a scale.
-#[tactic(auto, unfolding(crate::specs::Scales::triple_member))]
-fn read_point(
-    alloc: Global,
-    value: &Value,
-    scale: usize,
-    name: &str,
-    limits: (u64, u64),
-) -> Result<Point, InfoError>
-    ensures { Gives (λ x. x) result (triple_member scale name.now limits.0 limits.1 (view value.now)) }
-{
-    let (low, high) = limits;
-    let point = value
-        .get(name)
-        .and_then(|list| point_within(list, low, high));
-    found(alloc, point, scale, name)
-}
 
 /// The text as a path of at most 100 bytes.
 fn short_path_of(alloc: Global, text: &str) -> Result<Option<Path>, InfoError>

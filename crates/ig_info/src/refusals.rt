@@ -93,6 +93,14 @@ fn each_refusal_of_the_whole_is_named(rt: HostRuntime) -> Result<(), Fail> {
         (",\"data_type\":\"uint16\"", ""),
         (",\"data_type\":\"uint32\"", ""),
         (
+            ",\"data_type\":\"uint32\",\"scales\":[{\"key\":\"a\",\"size\":[1,1,1],\"resolution\":[1,1,1],\"chunk_sizes\":[[1,1,1]],\"encoding\":\"compressed_segmentation\",\"compressed_segmentation_block_size\":[8,8,8]}]",
+            "",
+        ),
+        (
+            ",\"data_type\":\"uint16\",\"scales\":[{\"key\":\"a\",\"size\":[1,1,1],\"resolution\":[1,1,1],\"chunk_sizes\":[[1,1,1]],\"encoding\":\"compressed_segmentation\",\"compressed_segmentation_block_size\":[8,8,8]}]",
+            "unsupported encoding",
+        ),
+        (
             ",\"num_channels\":\"1\",\"scales\":1",
             "member num_channels",
         ),
@@ -175,8 +183,28 @@ fn each_refusal_of_a_scale_is_named(rt: HostRuntime) -> Result<(), Fail> {
             "unsupported encoding",
         ),
         (
+            ",\"encoding\":\"compressed_segmentation\",\"compressed_segmentation_block_size\":[8,8,8]",
+            "",
+        ),
+        (
             ",\"encoding\":\"compressed_segmentation\"",
-            "unsupported encoding",
+            "member scales[0].compressed_segmentation_block_size",
+        ),
+        (
+            ",\"encoding\":\"compressed_segmentation\",\"compressed_segmentation_block_size\":[8,8]",
+            "member scales[0].compressed_segmentation_block_size",
+        ),
+        (
+            ",\"encoding\":\"compressed_segmentation\",\"compressed_segmentation_block_size\":[8,0,8],\"sharding\":1",
+            "member scales[0].compressed_segmentation_block_size",
+        ),
+        (
+            ",\"encoding\":\"compressed_segmentation\",\"compressed_segmentation_block_size\":[1,1,4194305]",
+            "member scales[0].compressed_segmentation_block_size",
+        ),
+        (
+            ",\"encoding\":\"compressed_segmentation\",\"compressed_segmentation_block_size\":[1,1,4194304]",
+            "unsupported chunk_sizes",
         ),
         (",\"compressed_segmentation_block_size\":0", ""),
         (

@@ -128,6 +128,20 @@ fn a_layer_whose_scale_does_not_fit_is_refused(rt: HostRuntime) -> Result<(), Fa
 }
 
 #[test]
+fn blocks_are_read_and_written(rt: HostRuntime) -> Result<(), Fail> {
+    let alloc = rt.alloc();
+    let text =
+        "{\"data_type\":\"uint32\",\"num_channels\":1,\"scales\":[{\"chunk_sizes\":[[64,64,64]],\"compressed_segmentation_block_size\":[8,4,2],\"encoding\":\"compressed_segmentation\",\"key\":\"a\",\"resolution\":[8,8,8],\"size\":[9,9,9]}],\"type\":\"segmentation\"}";
+    let info = read_info(alloc, text.as_bytes())?;
+    let scale = info.scale(0).ok_or("no scale")?;
+    let block = Point { x: 8, y: 4, z: 2 };
+    assert_eq!(rt; scale.geometry.encoding, Encoding::Cseg { block });
+    let written = write_info(alloc, &info)?;
+    assert_eq!(rt; written.as_bytes(), text.as_bytes());
+    Ok(())
+}
+
+#[test]
 fn scales_are_read_in_order(rt: HostRuntime) -> Result<(), Fail> {
     let alloc = rt.alloc();
     let text =

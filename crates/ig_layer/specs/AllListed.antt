@@ -59,7 +59,7 @@ labels_in-none volume box x y z h none =
 -- leaves its chunk no file
 pub chunk_file-none : (place : Place) (volume : ℕ → ℕ → ℕ → Option ℕ) (box : Box3) (x y z : ℕ) → IsIn box x y z → volume x y z ≡ None → chunk_file place volume box ≡ None
 chunk_file-none place volume box x y z h none =
-    ap (λ labels. file_if (chunk_path place.dir box) (text_of place.geometry.encoding place.geometry.width labels)) (labels_in-none volume box x y z h none)
+    ap (λ labels. file_if (chunk_path place.dir box) (text_of place.geometry.encoding place.geometry.width (size_of box) labels)) (labels_in-none volume box x y z h none)
 
 -- and each box that it lies in none either
 pub files_in-none : (place : Place) (volume : ℕ → ℕ → ℕ → Option ℕ) (box : Box3) → IsGrid (chunks_of place.geometry) → IsWithin box (space_of place.geometry)

@@ -8,11 +8,14 @@ use Rattle.ig_space.specs.declared.geometry.Encoding.TheVariants.{Raw, Cseg}
 use Rattle.ig_space.specs.declared.place.Place.{Place}
 use Rattle.ig_space.specs.Chunk.{chunk_path}
 use Rattle.ig_space.specs.Grid.{cell, cell_count, chunks_of, hull, size_of}
+use Rattle.ig_cseg.specs.declared.fault.CsegFault.{CsegFault}
+use Rattle.ig_cseg.specs.Cseg.{fault_of}
 use Rattle.ig_layer.specs.Layer.{raw_len}
 
 -- what is wrong with the text of a chunk
 pub data Cause : Type 0 where
   WrongLength : (got want : ℕ) → Cause
+  BadCseg : (fault : CsegFault) → Cause
 
 -- what is wrong with the file of a chunk
 pub data Fault : Type 0 where
@@ -30,7 +33,7 @@ first_of f (suc n) = or_else (first_of f n) (f n)
 
 abbrev pub cause_in : Encoding → Width → Point → List ℕ → Option Cause
 cause_in Raw width size bytes = if length bytes == raw_len width size then None else Some (WrongLength (length bytes) (raw_len width size))
-cause_in (Cseg block) width size bytes = None
+cause_in (Cseg block) width size bytes = option_map BadCseg (fault_of block width size bytes)
 
 -- what is wrong with what was found of this chunk
 abbrev pub fault_in : Place → Box3 → Option (List ℕ) → Option Fault

@@ -1,5 +1,6 @@
 -- The texts of the chunks of a volume.
 use Rattle.std.specs.Prelude.{ℕ, zero, suc, ◌+◌, ◌^◌, ◌&&◌, Bool, true, nat_lt, if◌then◌else◌, List, [], ◌∷◌, ◌++◌, Option, None, Some}
+use Rattle.ig_space.specs.declared.point.Point.{Point}
 use Rattle.ig_space.specs.declared.point.Box3.{Box3}
 use Rattle.ig_space.specs.declared.geometry.Width.{Width}
 use Rattle.ig_space.specs.declared.geometry.Encoding.{Encoding}
@@ -10,6 +11,7 @@ use Rattle.ig_space.specs.Chunk.{chunk_path}
 use Rattle.ig_space.specs.Geometry.{count, label_len}
 use Rattle.ig_space.specs.Grid.{cell, cell_count, chunks_of, hull, point_at, size_of}
 use Rattle.ig_space.specs.Raw.{raw_text}
+use Rattle.ig_cseg.specs.CsegText.{cseg_text}
 use Rattle.ig_defs.specs.Own.{File}
 
 abbrev pub with_last : {A : Type 0} → Option (List A) → Option A → Option (List A)
@@ -34,15 +36,19 @@ abbrev pub all_fit : Width → List ℕ → Bool
 all_fit width [] = true
 all_fit width (label ∷ labels) = nat_lt label (256 ^ label_len width) && all_fit width labels
 
--- the text of labels, if all fit. None is in compressed_segmentation until its codec stands.
-abbrev pub text_of : Encoding → Width → Option (List ℕ) → Option (List ℕ)
-text_of encoding width None = None
-text_of Raw width (Some labels) = if all_fit width labels then Some (raw_text width labels) else None
-text_of (Cseg block) width (Some labels) = None
+-- the text of the labels of a box of this size
+abbrev pub text_in : Encoding → Width → Point → List ℕ → List ℕ
+text_in Raw width size labels = raw_text width labels
+text_in (Cseg block) width size labels = cseg_text block width size labels
+
+-- and where not all fit, none
+abbrev pub text_of : Encoding → Width → Point → Option (List ℕ) → Option (List ℕ)
+text_of encoding width size None = None
+text_of encoding width size (Some labels) = if all_fit width labels then Some (text_in encoding width size labels) else None
 
 -- the text of a chunk: defined where each of its voxels has a label, and all fit
 abbrev pub chunk_text : Geometry → (ℕ → ℕ → ℕ → Option ℕ) → Box3 → Option (List ℕ)
-chunk_text g volume box = text_of g.encoding g.width (labels_in volume box)
+chunk_text g volume box = text_of g.encoding g.width (size_of box) (labels_in volume box)
 
 abbrev pub file_if : List ℕ → Option (List ℕ) → Option File
 file_if path None = None

@@ -1,13 +1,14 @@
-use Rattle.std.proofs.Common.{arith, ◌≡◌, ◌∷◌, [], length, length-append, map, Some, ap, sym, ◌∙◌, subst}
+use Rattle.std.proofs.Common.{arith, ◌≡◌, true, ◌∷◌, [], length, length-append, map, Some, ap, sym, ◌∙◌, subst}
 use Rattle.std.specs.Option.{option_map}
 use Rattle.ig_space.specs.declared.point.Box3.{Box3}
 use Rattle.ig_space.specs.declared.geometry.Grid.{Grid}
-use Rattle.ig_space.specs.Geometry.{count}
+use Rattle.ig_space.specs.Geometry.{count, encoding_fits}
 use Rattle.ig_space.specs.Grid.{cell, cell_count, chunks_of, hull, size_of}
 use Rattle.ig_space.specs.Raw.{AllFit}
 use Rattle.ig_layer.specs.Texts.{all_listed, chunk_file}
 use Rattle.ig_cutout.specs.Outputs.{output_of}
 use Rattle.ig_cutout.proofs.Chunks.{chunk-few}
+use Rattle.ig_cutout.proofs.Fitting.{chunk-encoding}
 use Rattle.ig_cutout.proofs.Cutting.{outputs-more}
 use Rattle.ig_cutout.proofs.cut.cut_chunks.Goals as goal
 
@@ -18,6 +19,14 @@ cut_chunk-requires-clause-few_in_chunk c =
     let chunk = c.cell-chunk.ensures.value ∙ ap (λ (g : Grid). cell g number) grid in
     let few = chunk-few c.args.place.now c.args.area number c.requires.fits in
     omega (arith, few, ap (λ (b : Box3). count (size_of b)) chunk)
+
+pub cut_chunk-requires-clause-fits : goal.cut_chunk-requires-clause-fits
+cut_chunk-requires-clause-fits c =
+    let g = c.args.place.now.geometry in
+    let number = c.len-in-loop-labels.result in
+    let grid = c.hull-hull.ensures.value ∙ ap (λ (g : Grid). hull g c.args.area) c.chunks.ensures.value in
+    let chunk = c.cell-chunk.ensures.value ∙ ap (λ (g : Grid). cell g number) grid in
+    subst (λ (b : Box3). encoding_fits (size_of b) g.width g.encoding ≡ true) (sym chunk) (chunk-encoding c.args.place.now c.args.area number c.requires.fits)
 
 pub cut_chunk-requires-clause-fit : goal.cut_chunk-requires-clause-fit
 cut_chunk-requires-clause-fit c = subst (AllFit c.args.place.now.geometry.width) (sym c.labels-labels.ensures.labels) c.requires.fit

@@ -1,9 +1,9 @@
-use Rattle.std.proofs.Common.{arith, ◌≡◌, ◌<◌, List, length, get_or, None, ap, sym, ◌∙◌, subst}
+use Rattle.std.proofs.Common.{arith, ◌≡◌, ◌<◌, true, List, length, get_or, None, ap, sym, ◌∙◌, subst}
 use Rattle.std.proofs.lemmas.List.{get_or_default}
 use Rattle.ig_space.specs.declared.point.Box3.{Box3}
 use Rattle.ig_space.specs.declared.geometry.Grid.{Grid}
 use Rattle.ig_space.specs.Chunk.{chunk_path}
-use Rattle.ig_space.specs.Geometry.{count}
+use Rattle.ig_space.specs.Geometry.{count, encoding_fits}
 use Rattle.ig_space.specs.Grid.{IsGrid, Meets, cell, chunks_of, hull, size_of}
 use Rattle.ig_layer.specs.Faults.{chunk_at, fault_in}
 use Rattle.ig_cutout.specs.declared.types.Input.{Input}
@@ -11,6 +11,7 @@ use Rattle.ig_cutout.specs.Inputs.{Says}
 use Rattle.ig_cutout.specs.Pasted.{IsAdded, IsAssembled}
 use Rattle.ig_cutout.proofs.Assembling.{assembled-more}
 use Rattle.ig_cutout.proofs.Chunks.{chunk-few, inputs-count, inputs-path, number-below}
+use Rattle.ig_cutout.proofs.Fitting.{chunk-encoding}
 use Rattle.ig_cutout.proofs.FirstFault.{no-fault, the-fault}
 use Rattle.ig_cutout.proofs.paste.paste_all.Goals as goal
 
@@ -42,6 +43,13 @@ paste-requires-clause-few_in_chunk c =
     let chunk = c.cell-chunk.ensures.value ∙ ap (λ (g : Grid). cell g c.loop-number.number) grid in
     let few = chunk-few c.args.place.now c.args.area c.loop-number.number c.requires.fits in
     omega (arith, few, ap (λ (b : Box3). count (size_of b)) chunk)
+
+pub paste-requires-clause-fits : goal.paste-requires-clause-fits
+paste-requires-clause-fits c =
+    let g = c.args.place.now.geometry in
+    let grid = c.hull-hull.ensures.value ∙ ap (λ (g : Grid). hull g c.args.area) c.chunks.ensures.value in
+    let chunk = c.cell-chunk.ensures.value ∙ ap (λ (g : Grid). cell g c.loop-number.number) grid in
+    subst (λ (b : Box3). encoding_fits (size_of b) g.width g.encoding ≡ true) (sym chunk) (chunk-encoding c.args.place.now c.args.area c.loop-number.number c.requires.fits)
 
 pub returns-in-Err-clause-fault : goal.returns-in-Err-clause-fault
 returns-in-Err-clause-fault c =

@@ -1,9 +1,5 @@
 use Rattle.ig_info.proofs.Limits.{scales_of-IsInfo}
-use Rattle.ig_info.proofs.Readable.{scales_of-raw}
 use Rattle.ig_info.proofs.read.read_info.Goals as goal
 
 pub of_members-requires : goal.of_members-requires
 of_members-requires c = scales_of-IsInfo _ _ c.in_ok-scales.ensures c.in_ok-members.ensures.nests c.in_ok-members.ensures.ordered
-
-pub returns-clause-readable : goal.returns-clause-readable
-returns-clause-readable c = rw c.of_members.ensures (scales_of-raw _ _ c.in_ok-scales.ensures)

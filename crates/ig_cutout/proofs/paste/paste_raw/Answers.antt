@@ -3,10 +3,10 @@ use Rattle.ig_space.specs.Geometry.{count, label_len}
 use Rattle.ig_space.specs.Grid.{size_of}
 use Rattle.ig_cutout.specs.Area.{common, layout_of}
 use Rattle.ig_cutout.specs.Laid.{number_in}
-use Rattle.ig_cutout.proofs.Pasting.{pasted-laid}
+use Rattle.ig_cutout.proofs.Pasting.{copied-laid, pasted-raw}
 use Rattle.ig_cutout.proofs.Places.{common-left, common-right, layout-order, layout-room}
 use Rattle.ig_cutout.proofs.Moved.{few_bytes, laid-at, order-at, room-at}
-use Rattle.ig_cutout.proofs.paste.paste_text.Goals as goal
+use Rattle.ig_cutout.proofs.paste.paste_raw.Goals as goal
 
 pub read_planes-requires-clause-source : goal.read_planes-requires-clause-source
 read_planes-requires-clause-source c =
@@ -40,7 +40,8 @@ read_planes-requires-clause-few_bytes c =
 pub returns-clause-pasted : goal.returns-clause-pasted
 returns-clause-pasted c =
     let part = common c.args.chunk c.args.area in
-    pasted-laid c.args.geometry.now.width c.args.area c.args.chunk c.args.text.now c.args.labels.now c.read_planes.new.labels c.requires.meets
+    pasted-raw c.args.geometry.now.encoding c.args.geometry.now.width c.args.area c.args.chunk c.args.text.now c.args.labels.now c.read_planes.new.labels c.requires.raw
+    (copied-laid (number_in c.args.geometry.now.width c.args.text.now) c.args.area c.args.chunk c.args.labels.now c.read_planes.new.labels c.requires.meets
     (laid-at (number_in c.args.geometry.now.width c.args.text.now) _ (layout_of c.args.chunk part) _ (layout_of c.args.area part) _ (size_of part) c.args.labels.now c.read_planes.new.labels
     (c.layout_of-source.ensures ∙ ap (layout_of c.args.chunk) c.common-part.ensures) (c.layout_of-target.ensures ∙ ap (layout_of c.args.area) c.common-part.ensures) (c.size_of-2.ensures ∙ ap size_of c.common-part.ensures)
-    c.read_planes.ensures.laid)
+    c.read_planes.ensures.laid))
