@@ -37,6 +37,14 @@ inserted before now path bytes updates = map.same_map nat_list_cmp_total same _ 
     get-from_entries now q ∙ updates q ∙ ap (λ b. cond b (Some bytes) (lookup (is_at (order q)) before)) ((eq_by_cmp_equiv nat_list_cmp_total).symm path q)
     ∙ ap (cond (eq_by_cmp order q path) (Some bytes)) (sym (get-from_entries before q)) ∙ sym (map.get-insert nat_list_cmp_total (map.from_entries before) path bytes q))
 
+-- a file less, seen at each path
+pub removed : (before now : List Entry) (path : List ℕ)
+    → ((q : List ℕ) → lookup (is_at (order q)) now ≡ cond (is_at (order path) q) None (lookup (is_at (order q)) before))
+    → map.from_entries {R = order} now ≡ map.remove (map.from_entries before) path
+removed before now path updates = map.same_map nat_list_cmp_total same _ _ (λ q.
+    get-from_entries now q ∙ updates q ∙ ap (λ b. cond b None (lookup (is_at (order q)) before)) ((eq_by_cmp_equiv nat_list_cmp_total).symm path q)
+    ∙ ap (cond (eq_by_cmp order q path) None) (sym (get-from_entries before q)) ∙ sym (map.get-remove nat_list_cmp_total (map.from_entries before) path q))
+
 -- the files with these put in, one after the other
 abbrev pub with_all : Files → List Entry → Files
 with_all files [] = files

@@ -1,3 +1,4 @@
 pub mod Entries
 pub mod Listings
+pub mod Moves
 pub mod Turns

@@ -10,8 +10,8 @@ use Rattle.ig_defs.specs.declared.error.StoreError.TheVariants.{Failed, Memory}
 use Rattle.ig_defs.specs.Files.{Files}
 use Rattle.ig_defs.specs.Log.{Log, Turn, replay, own, own_all, IsQuiet}
 use Rattle.ig_defs.specs.Replay.{replay-append, after-quiet}
-use Rattle.ig_defs.specs.Calls.{TakesRead, TakesHas, TakesNames, TakesPut, ListsNames}
-use Rattle.ig_store.specs.Fails.{is_made}
+use Rattle.ig_defs.specs.Calls.{TakesRead, TakesHas, TakesNames, TakesPut, TakesShift, TakesRemove, ListsNames}
+use Rattle.ig_store.specs.Fails.{acts_of, is_made}
 
 abbrev pub logged : Files → List Step → Log
 logged opening steps = record { opening = opening; steps = steps }
@@ -87,3 +87,52 @@ pub put_kept : (opening files now : Files) (before later : List Step) (path byte
     → now ≡ (if made then map.insert files path bytes else files) → now ≡ replay opening later
 put_kept opening files now before later path bytes true stand grown is = is ∙ one_more opening files before later (act.Put path bytes) stand grown
 put_kept opening files now before later path bytes false stand same is = is ∙ stand ∙ sym (ap (replay opening) same)
+
+-- ---- moves and removals
+-- own acts keep the files those of the log
+pub acts_kept : (opening files now : Files) (before later : List Step) (acts : List Act)
+    → files ≡ replay opening before → later ≡ before ++ own_all acts → now ≡ replay files (own_all acts) → now ≡ replay opening later
+acts_kept opening files now before later acts stand grown is =
+    is ∙ ap (λ f. replay f (own_all acts)) stand ∙ sym (replay-append opening before (own_all acts)) ∙ sym (ap (replay opening) grown)
+
+shift_took : (files : Files) (from to : List ℕ) (fail : Option Bool) (there : Bool) (result : Result Bool StoreError)
+    → there ≡ is_some (map.get files from) → IfOk result (λ found. found ≡ there)
+    → TakesShift from to result files [] (acts_of fail there (act.Move from to) (act.Read from) result)
+shift_took files from to fail there (Ok true) is found = (refl, sym (found ∙ is))
+shift_took files from to fail there (Ok false) is found = (refl, sym (found ∙ is))
+shift_took files from to None there (Err Failed) is found = inl refl
+shift_took files from to (Some false) there (Err Failed) is found = inl refl
+shift_took files from to (Some true) true (Err Failed) is found = inr (refl, sym is)
+shift_took files from to (Some true) false (Err Failed) is found = inl refl
+shift_took files from to None there (Err Memory) is found = refl
+shift_took files from to (Some made) there (Err Memory) is found = refl
+
+pub shift_turn : (allows : Bool → Files → Act → Type 0) (opening files : Files) (before later : List Step) (from to : List ℕ) (fail : Option Bool) (result : Result Bool StoreError)
+    → files ≡ replay opening before → IfOk result (λ found. found ≡ is_some (map.get files from))
+    → later ≡ before ++ own_all (acts_of fail (is_some (map.get files from)) (act.Move from to) (act.Read from) result)
+    → Turn allows (logged opening before) (logged opening later) (TakesShift from to result)
+shift_turn allows opening files before later from to fail result stand found grown =
+    let there : Bool = is_some (map.get files from) in
+    taken allows opening files before later (acts_of fail there (act.Move from to) (act.Read from) result) (TakesShift from to result) stand grown
+    (shift_took files from to fail there result refl found)
+
+remove_took : (files : Files) (path : List ℕ) (fail : Option Bool) (there : Bool) (result : Result Bool StoreError)
+    → there ≡ is_some (map.get files path) → IfOk result (λ found. found ≡ there)
+    → TakesRemove path result files [] (acts_of fail there (act.Remove path) (act.Read path) result)
+remove_took files path fail there (Ok true) is found = (refl, sym (found ∙ is))
+remove_took files path fail there (Ok false) is found = (refl, sym (found ∙ is))
+remove_took files path None there (Err Failed) is found = inl refl
+remove_took files path (Some false) there (Err Failed) is found = inl refl
+remove_took files path (Some true) true (Err Failed) is found = inr (refl, sym is)
+remove_took files path (Some true) false (Err Failed) is found = inl refl
+remove_took files path None there (Err Memory) is found = refl
+remove_took files path (Some made) there (Err Memory) is found = refl
+
+pub remove_turn : (allows : Bool → Files → Act → Type 0) (opening files : Files) (before later : List Step) (path : List ℕ) (fail : Option Bool) (result : Result Bool StoreError)
+    → files ≡ replay opening before → IfOk result (λ found. found ≡ is_some (map.get files path))
+    → later ≡ before ++ own_all (acts_of fail (is_some (map.get files path)) (act.Remove path) (act.Read path) result)
+    → Turn allows (logged opening before) (logged opening later) (TakesRemove path result)
+remove_turn allows opening files before later path fail result stand found grown =
+    let there : Bool = is_some (map.get files path) in
+    taken allows opening files before later (acts_of fail there (act.Remove path) (act.Read path) result) (TakesRemove path result) stand grown
+    (remove_took files path fail there result refl found)

@@ -1,6 +1,7 @@
 -- Calls of a store in memory that are to fail.
 use Rattle.std.specs.Prelude.{ℕ, Bool, true, false, ◌&&◌, nat_le, if◌then◌else◌, List, [], ◌∷◌, Option, None, Some, Result, Ok, Err, IsErr, IsErrOf, min, ◌+◌, ◌-◌, ◌^◌, ◌≤◌}
 use Rattle.std.proofs.Common.{arith}
+use Rattle.ig_defs.specs.declared.step.Act.{Act}
 use Rattle.ig_defs.specs.declared.error.StoreError.{StoreError}
 use Rattle.ig_defs.specs.declared.error.StoreError.TheVariants.{Failed, Memory}
 use Rattle.ig_store.specs.declared.fails.Fail.{Fail}
@@ -33,8 +34,8 @@ abbrev pub Answers : {T : Type 0} → Option Bool → Result T StoreError → Ty
 Answers None result = IsErrOf result Failed → ⊥
 Answers (Some made) result = IsErrOf result Failed
 
--- a put does so too, but that one which is to be made may want memory for it
-abbrev pub AnswersPut : Option Bool → Result (Unit {0}) StoreError → Type 0
+-- a put, a move or a removal does so too, but one which is to be made may want memory for it
+abbrev pub AnswersPut : {T : Type 0} → Option Bool → Result T StoreError → Type 0
 AnswersPut None result = IsErrOf result Failed → ⊥
 AnswersPut (Some false) result = IsErrOf result Failed
 AnswersPut (Some true) result = IsErr result
@@ -45,3 +46,12 @@ is_made fail (Ok done) = true
 is_made None (Err e) = false
 is_made (Some made) (Err Failed) = made
 is_made (Some made) (Err Memory) = false
+
+-- the own acts of a move or a removal, by whether the file is there: the change where it is made, or a look where there is
+-- no file
+abbrev pub acts_of : Option Bool → Bool → Act → Act → Result Bool StoreError → List Act
+acts_of fail there change look (Ok true) = change ∷ []
+acts_of fail there change look (Ok false) = look ∷ []
+acts_of None there change look (Err e) = []
+acts_of (Some made) there change look (Err Failed) = if made && there then change ∷ [] else []
+acts_of (Some made) there change look (Err Memory) = []

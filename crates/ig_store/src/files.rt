@@ -1,7 +1,8 @@
-ghost use Rattle.std.specs.Prelude.{◌≡◌, [], All, IfOk, OnOk, OnErr};
+ghost use Rattle.std.specs.Prelude.{◌≡◌, [], All, IfOk, OnOk, OnErr, is_some};
 ghost use Rattle.std.specs.Option.{option_copied};
 ghost use Rattle.std.specs.FinMap as map;
 ghost use Rattle.ig_defs.specs.Files.{file_at};
+ghost use Rattle.ig_defs.specs.Log.{moved};
 ghost use Rattle.ig_defs.specs.Calls.{ListsNames};
 ghost use Rattle.ig_defs.specs.Names.{IsNameIn};
 
@@ -47,6 +48,31 @@ impl FileMap {
     {
         self.files.insert(path, bytes)?;
         Ok(())
+    }
+
+    /// Moves a file, in place of the one at `to`; false exactly where there is none at `from`.
+    pub fn shift(&mut self, from: &Path, to: &Path) -> Result<bool, AllocError>
+        ensures found { IfOk result (λ found. found ≡ is_some (file_at self.old from.now)) }
+        ensures ok { OnOk result (self.new ≡ moved self.old from.now to.now (file_at self.old from.now)) }
+        ensures err { OnErr result (self.new ≡ self.old) }
+    {
+        let Some(bytes) = self.get(from) else {
+            return Ok(false);
+        };
+        let (key, value) = (to.copy()?, bytes.copy()?);
+        self.insert(key, value)?;
+        if from != to {
+            let _ = self.remove(from);
+        }
+        Ok(true)
+    }
+
+    /// Takes a file out, and gives its bytes.
+    pub fn remove(&mut self, path: &Path) -> Option<Bytes>
+        ensures files { self.new ≡ map.remove self.old path.now }
+        ensures bytes { result ≡ file_at self.old path.now }
+    {
+        self.files.remove(path)
     }
 
     /// The names of the files that lie directly in a directory, in the order of their bytes.

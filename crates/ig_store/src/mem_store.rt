@@ -1,15 +1,15 @@
 ghost use Rattle.std.specs.Prelude.{◌≡◌, ◌++◌, [], ◌∷◌, ℕ, All, IfOk, is_some, if◌then◌else◌};
 ghost use Rattle.std.specs.Option.{option_copied};
-ghost use Rattle.ig_defs.specs.Log.{Turn, files_of, own};
+ghost use Rattle.ig_defs.specs.Log.{Turn, files_of, own, own_all};
 ghost use Rattle.ig_defs.specs.Files.{file_at};
 ghost use Rattle.ig_defs.specs.Names.{IsNameIn};
-ghost use Rattle.ig_defs.specs.Calls.{HasCause, TakesRead, TakesHas, TakesNames, TakesPut};
+ghost use Rattle.ig_defs.specs.Calls.{HasCause, TakesRead, TakesHas, TakesNames, TakesPut, TakesRemove, TakesShift};
 ghost use Rattle.ig_defs.specs.declared.step.Act.TheVariants as act;
-ghost use Rattle.ig_store.specs.Fails.{fail_of, counted, shown, most_of, shown-most, Answers, AnswersPut, is_made};
+ghost use Rattle.ig_store.specs.Fails.{fail_of, counted, shown, most_of, shown-most, acts_of, Answers, AnswersPut, is_made};
 ghost use Rattle.ig_store.specs.Memory.{Memory};
 
 use crate::fails::{Fails, begin};
-use crate::steps::{Steps, has_file, list_files, put_file, read_file};
+use crate::steps::{Steps, has_file, list_files, put_file, read_file, remove_file, shift_file};
 use crate::{FileMap, Rule, Store, StoreError};
 use ig_space::{Bytes, List, Names, Path, TryClone};
 use std::alloc::{AllocError, Global};
@@ -173,6 +173,36 @@ impl<R: Rule> Store<R> for MemStore<R> {
             path,
             bytes,
         )
+    }
+
+    fn shift(&mut self, from: &Path, to: &Path) -> Result<bool, StoreError>
+        ensures rule { self.new.rule ≡ self.old.rule }
+        ensures most { most_of self.new.fails ≡ most_of self.old.fails }
+        ensures cause { HasCause (shown self.old.fails self.old.faults) (shown self.new.fails self.new.faults) result }
+        ensures turn { Unit {0} → Turn (R.allows self.old.rule) self.old.log self.new.log (TakesShift from.now to.now result) }
+        ensures call { self.new.calls ≡ counted self.old.calls }
+        ensures fails { self.new.fails ≡ self.old.fails }
+        ensures fault { self.new.faults ≡ (if is_some (fail_of self.old.fails self.new.calls) then counted self.old.faults else self.old.faults) }
+        ensures answers { AnswersPut (fail_of self.old.fails self.new.calls) result }
+        ensures made { self.new.log.steps ≡ self.old.log.steps ++ own_all (acts_of (fail_of self.old.fails self.new.calls) (is_some (file_at (files_of self.old.log) from.now)) (act.Move from.now to.now) (act.Read from.now) result) }
+    {
+        let fail = begin(&self.fails, &mut self.calls, &mut self.faults);
+        shift_file(fail, &mut self.files, &mut self.steps, from, to)
+    }
+
+    fn remove(&mut self, path: &Path) -> Result<bool, StoreError>
+        ensures rule { self.new.rule ≡ self.old.rule }
+        ensures most { most_of self.new.fails ≡ most_of self.old.fails }
+        ensures cause { HasCause (shown self.old.fails self.old.faults) (shown self.new.fails self.new.faults) result }
+        ensures turn { Unit {0} → Turn (R.allows self.old.rule) self.old.log self.new.log (TakesRemove path.now result) }
+        ensures call { self.new.calls ≡ counted self.old.calls }
+        ensures fails { self.new.fails ≡ self.old.fails }
+        ensures fault { self.new.faults ≡ (if is_some (fail_of self.old.fails self.new.calls) then counted self.old.faults else self.old.faults) }
+        ensures answers { AnswersPut (fail_of self.old.fails self.new.calls) result }
+        ensures made { self.new.log.steps ≡ self.old.log.steps ++ own_all (acts_of (fail_of self.old.fails self.new.calls) (is_some (file_at (files_of self.old.log) path.now)) (act.Remove path.now) (act.Read path.now) result) }
+    {
+        let fail = begin(&self.fails, &mut self.calls, &mut self.faults);
+        remove_file(fail, &mut self.files, &mut self.steps, path)
     }
 
     ghost bounded = { λ store. shown-most store.fails store.faults };

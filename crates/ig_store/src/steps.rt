@@ -1,12 +1,13 @@
-ghost use Rattle.std.specs.Prelude.{◌≡◌, ◌++◌, [], ◌∷◌, if◌then◌else◌, List as list, is_some, All, IfOk, OnOk, OnErr};
+ghost use Rattle.std.specs.Prelude.{◌≡◌, ◌++◌, [], ◌∷◌, if◌then◌else◌, List as list, false, is_some, All, IfOk, OnOk, OnErr};
 ghost use Rattle.std.specs.Option.{option_copied};
 ghost use Rattle.std.specs.FinMap as map;
-ghost use Rattle.ig_defs.specs.Log.{own};
+ghost use Rattle.ig_defs.specs.Files.{file_at};
+ghost use Rattle.ig_defs.specs.Log.{moved, own, own_all, replay};
 ghost use Rattle.ig_defs.specs.Calls.{ListsNames};
 ghost use Rattle.ig_defs.specs.Names.{IsNameIn};
 ghost use Rattle.ig_defs.specs.declared.step.Act.TheVariants as act;
 ghost use Rattle.ig_defs.specs.declared.step.Step.{Step as TheStep};
-ghost use Rattle.ig_store.specs.Fails.{Answers, AnswersPut, is_made};
+ghost use Rattle.ig_store.specs.Fails.{acts_of, Answers, AnswersPut, is_made};
 
 use crate::FileMap;
 use ig_defs::{Act, Step, StoreError};
@@ -144,4 +145,103 @@ pub(crate) fn put_file(
         return Err(StoreError::Failed);
     }
     Ok(())
+}
+
+/// Logs a look at a file that isn't there, as far as the call is not to fail.
+fn miss_file(fail: Option<bool>, steps: &mut Steps, path: &Path) -> Result<bool, StoreError>
+    ensures found { IfOk result (λ found. found ≡ false) }
+    ensures step { OnOk result (steps.new ≡ steps.old ++ own (act.Read path.now) ∷ []) }
+    ensures err { OnErr result (steps.new ≡ steps.old) }
+    ensures answers { Answers fail result }
+{
+    if fail.is_some() {
+        return Err(StoreError::Failed);
+    }
+    log(steps, Act::Read(path.copy()?))?;
+    Ok(false)
+}
+
+/// Moves a file and logs the step, or neither.
+fn move_file(
+    files: &mut FileMap,
+    steps: &mut Steps,
+    from: &Path,
+    to: &Path,
+) -> Result<(), AllocError>
+    ensures step { OnOk result (steps.new ≡ steps.old ++ own (act.Move from.now to.now) ∷ []) }
+    ensures files { OnOk result (files.new ≡ moved files.old from.now to.now (file_at files.old from.now)) }
+    ensures no_step { OnErr result (steps.new ≡ steps.old) }
+    ensures no_file { OnErr result (files.new ≡ files.old) }
+{
+    log(steps, Act::Move(from.copy()?, to.copy()?))?;
+    match files.shift(from, to) {
+        Ok(_) => Ok(()),
+        Err(e) => {
+            take_back(steps);
+            Err(e)
+        }
+    }
+}
+
+/// Moves a file where it is there, as far as the call is not to fail.
+pub(crate) fn shift_file(
+    fail: Option<bool>,
+    files: &mut FileMap,
+    steps: &mut Steps,
+    from: &Path,
+    to: &Path,
+) -> Result<bool, StoreError>
+    ensures found { IfOk result (λ found. found ≡ is_some (file_at files.old from.now)) }
+    ensures step { steps.new ≡ steps.old ++ own_all (acts_of fail (is_some (file_at files.old from.now)) (act.Move from.now to.now) (act.Read from.now) result) }
+    ensures files { files.new ≡ replay files.old (own_all (acts_of fail (is_some (file_at files.old from.now)) (act.Move from.now to.now) (act.Read from.now) result)) }
+    ensures answers { AnswersPut fail result }
+{
+    if let Some(false) = fail {
+        return Err(StoreError::Failed);
+    }
+    if files.get(from).is_none() {
+        return miss_file(fail, steps, from);
+    }
+    move_file(files, steps, from, to)?;
+    if fail.is_some() {
+        return Err(StoreError::Failed);
+    }
+    Ok(true)
+}
+
+/// Takes a file away and logs the step, or neither.
+fn delete_file(files: &mut FileMap, steps: &mut Steps, path: &Path) -> Result<(), AllocError>
+    ensures step { OnOk result (steps.new ≡ steps.old ++ own (act.Remove path.now) ∷ []) }
+    ensures files { OnOk result (files.new ≡ map.remove files.old path.now) }
+    ensures no_step { OnErr result (steps.new ≡ steps.old) }
+    ensures no_file { OnErr result (files.new ≡ files.old) }
+{
+    log(steps, Act::Remove(path.copy()?))?;
+    let _ = files.remove(path);
+    Ok(())
+}
+
+/// Takes a file away where it is there, as far as the call is not to fail.
+pub(crate) fn remove_file(
+    fail: Option<bool>,
+    files: &mut FileMap,
+    steps: &mut Steps,
+    path: &Path,
+) -> Result<bool, StoreError>
+    ensures found { IfOk result (λ found. found ≡ is_some (file_at files.old path.now)) }
+    ensures step { steps.new ≡ steps.old ++ own_all (acts_of fail (is_some (file_at files.old path.now)) (act.Remove path.now) (act.Read path.now) result) }
+    ensures files { files.new ≡ replay files.old (own_all (acts_of fail (is_some (file_at files.old path.now)) (act.Remove path.now) (act.Read path.now) result)) }
+    ensures answers { AnswersPut fail result }
+{
+    if let Some(false) = fail {
+        return Err(StoreError::Failed);
+    }
+    if files.get(path).is_none() {
+        return miss_file(fail, steps, path);
+    }
+    delete_file(files, steps, path)?;
+    if fail.is_some() {
+        return Err(StoreError::Failed);
+    }
+    Ok(true)
 }

@@ -1,7 +1,7 @@
 ghost use Rattle.std.specs.Prelude.{◌≡◌, ◌≤◌, ℕ, true, All, IfOk};
 ghost use Rattle.ig_defs.specs.Log.{Log, Turn};
 ghost use Rattle.ig_defs.specs.Names.{IsNameIn};
-ghost use Rattle.ig_defs.specs.Calls.{HasCause, TakesRead, TakesHas, TakesNames, TakesPut};
+ghost use Rattle.ig_defs.specs.Calls.{HasCause, TakesRead, TakesHas, TakesNames, TakesPut, TakesRemove, TakesShift};
 
 use crate::{Rule, StoreError};
 use ig_space::{Bytes, Names, Path};
@@ -52,6 +52,20 @@ pub trait Store<R: Rule> {
         ensures most { most self.new ≡ most self.old }
         ensures cause { HasCause (faults self.old) (faults self.new) result }
         ensures turn { tells → Turn (R.allows (rule self.old)) (log self.old) (log self.new) (TakesPut path.now bytes.now result) };
+
+    /// Moves a file, in one step, in place of the one at `to`; false exactly where there is none at `from`.
+    fn shift(&mut self, from: &Path, to: &Path) -> Result<bool, StoreError>
+        ensures rule { rule self.new ≡ rule self.old }
+        ensures most { most self.new ≡ most self.old }
+        ensures cause { HasCause (faults self.old) (faults self.new) result }
+        ensures turn { tells → Turn (R.allows (rule self.old)) (log self.old) (log self.new) (TakesShift from.now to.now result) };
+
+    /// Takes a file away; false exactly where there is none.
+    fn remove(&mut self, path: &Path) -> Result<bool, StoreError>
+        ensures rule { rule self.new ≡ rule self.old }
+        ensures most { most self.new ≡ most self.old }
+        ensures cause { HasCause (faults self.old) (faults self.new) result }
+        ensures turn { tells → Turn (R.allows (rule self.old)) (log self.old) (log self.new) (TakesRemove path.now result) };
 
     ghost bounded: { (store : Self) → faults store ≤ most store };
 }

@@ -1,5 +1,6 @@
 use crate::{
-    Clock, Fail, Fails, FileMap, MemClock, MemSink, MemStore, Path, Rule, Sink, Store, StoreError,
+    Act, Clock, Fail, Fails, FileMap, MemClock, MemSink, MemStore, Path, Rule, Sink, Store,
+    StoreError,
 };
 use ig_space::{Bytes, List, Names, TryClone};
 use std::alloc::Global;
@@ -143,6 +144,102 @@ fn calls_fail_as_told(rt: HostRuntime) -> Result<(), Failed> {
     assert!(rt; fails(rt.alloc(), &mut store, "c")?);
     assert_eq!(rt; has(rt.alloc(), &mut store, "b")?, false);
     assert_eq!(rt; has(rt.alloc(), &mut store, "c")?, true);
+    Ok(())
+}
+
+/// The steps of a store, each with its paths and ended by a comma: `R` reads, `M` moves, `D` removes.
+fn steps_text(alloc: Global, store: &Memory) -> Result<String, Failed> {
+    let mut text = String::new(alloc);
+    for step in store.steps().as_slice() {
+        let one = match &step.act {
+            Act::Read(path) => format!(in alloc; "R {}", path.as_str())?,
+            Act::Move(from, to) => format!(in alloc; "M {} {}", from.as_str(), to.as_str())?,
+            Act::Remove(path) => format!(in alloc; "D {}", path.as_str())?,
+            Act::List(_, _) | Act::Put(_, _) => String::from_str(alloc, "?")?,
+        };
+        text.push_str(one.as_str())?;
+        text.push(',')?;
+    }
+    Ok(text)
+}
+
+/// The files `a`, `b` and `c` that stand, each with its bytes and ended by a comma.
+fn files_text(alloc: Global, store: &Memory) -> Result<String, Failed> {
+    let mut text = String::new(alloc);
+    for name in ["a", "b", "c"] {
+        if let Some(bytes) = store.file(&path(alloc, name)?) {
+            let bytes = std::str::from_utf8(bytes.as_bytes())?;
+            text.push_str(format!(in alloc; "{name}={bytes},")?.as_str())?;
+        }
+    }
+    Ok(text)
+}
+
+/// A store of the files `a` and `b`, whose first call fails where the word says so.
+fn opened_with_two(alloc: Global, word: &str) -> Result<Memory, Failed> {
+    let mut fails = List::new(alloc);
+    if word != "works" {
+        fails.push(Fail {
+            from: 1,
+            to: 1,
+            made: word == "made",
+        })?;
+    }
+    opened(alloc, two_files(alloc)?, fails)
+}
+
+/// What a move to the second path answers, or a removal where there is `-`.
+fn change(alloc: Global, store: &mut Memory, from: &str, to: &str) -> Result<&'static str, Failed> {
+    let from = path(alloc, from)?;
+    let answer = if to == "-" {
+        store.remove(&from)
+    } else {
+        store.shift(&from, &path(alloc, to)?)
+    };
+    match answer {
+        Ok(true) => Ok("true"),
+        Ok(false) => Ok("false"),
+        Err(StoreError::Failed) => Ok("failed"),
+        Err(StoreError::Memory) => Err("no memory".into()),
+    }
+}
+
+/// What comes of a call of these words: the path, the path to move to, and whether the call works.
+fn outcome(alloc: Global, call: &str) -> Result<String, Failed> {
+    let mut words = call.split_whitespace();
+    let from = words.next().ok_or("no path")?;
+    let to = words.next().ok_or("no second path")?;
+    let mut store = opened_with_two(alloc, words.next().ok_or("no word")?)?;
+    let answer = change(alloc, &mut store, from, to)?;
+    let (steps, files) = (steps_text(alloc, &store)?, files_text(alloc, &store)?);
+    Ok(format!(in alloc; "{answer} {steps} {files}")?)
+}
+
+#[test]
+fn files_are_moved_and_removed(rt: HostRuntime) -> Result<(), Failed> {
+    for row in [
+        "a c works = true M a c, b=b,c=a,",
+        "a c unmade = failed  a=a,b=b,",
+        "a c made = failed M a c, b=b,c=a,",
+        "a b works = true M a b, b=a,",
+        "a b unmade = failed  a=a,b=b,",
+        "a b made = failed M a b, b=a,",
+        "a a works = true M a a, a=a,b=b,",
+        "a a unmade = failed  a=a,b=b,",
+        "a a made = failed M a a, a=a,b=b,",
+        "c b works = false R c, a=a,b=b,",
+        "c b unmade = failed  a=a,b=b,",
+        "c b made = failed  a=a,b=b,",
+        "b - works = true D b, a=a,",
+        "b - unmade = failed  a=a,b=b,",
+        "b - made = failed D b, a=a,",
+        "c - works = false R c, a=a,b=b,",
+        "c - unmade = failed  a=a,b=b,",
+        "c - made = failed  a=a,b=b,",
+    ] {
+        let (call, want) = row.split_once(" = ").ok_or("no row")?;
+        assert_eq!(rt; outcome(rt.alloc(), call)?.as_str(), want);
+    }
     Ok(())
 }
 

@@ -180,3 +180,32 @@ pub fn replace_file<F: Files + AllocGlobal>(
     }
     moved
 }
+
+/// Moves the file in one step, in place of the one at `to`; false exactly where there is no such file.
+fn rename_file<F: Files>(rt: &F, from: &str, to: &str) -> io::Result<bool>
+    ensures { IfErr result (λ e. error_kind e ≢ ErrorKind.NotFound) }
+{
+    match fs::rename(rt, from, to) {
+        Ok(()) => Ok(true),
+        Err(e) if e.kind() == ErrorKind::NotFound => Ok(false),
+        Err(e) => Err(e),
+    }
+}
+
+/// Moves the file in one step, in place of the one at `to`, above which missing directories are made; false exactly where
+/// there is no such file.
+pub fn move_file<F: Files>(rt: &F, from: &str, to: &str) -> io::Result<bool> {
+    make_parent(rt, to)?;
+    rename_file(rt, from, to)
+}
+
+/// Takes the file away; false exactly where there is no such file.
+pub fn remove_file<F: Files>(rt: &F, place: &str) -> io::Result<bool>
+    ensures { IfErr result (λ e. error_kind e ≢ ErrorKind.NotFound) }
+{
+    match fs::remove_file(rt, place) {
+        Ok(()) => Ok(true),
+        Err(e) if e.kind() == ErrorKind::NotFound => Ok(false),
+        Err(e) => Err(e),
+    }
+}

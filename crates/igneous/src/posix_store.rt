@@ -7,7 +7,9 @@ ghost use Rattle.std.specs.List.Sorted.{IsStrictlySortedBy};
 ghost use Rattle.std.specs.Ordering.{nat_cmp};
 ghost use Rattle.std.specs.Cmp.Lexicographic.{slice_cmp};
 
-use crate::posix_files::{has_file, names_in, place, read_file, replace_file};
+use crate::posix_files::{
+    has_file, move_file, names_in, place, read_file, remove_file, replace_file,
+};
 use ig_store::{Bytes, Names, Path, Rule, Store, StoreError};
 use rand_chacha::ChaCha20Rng;
 use rand_core::SeedableRng;
@@ -88,6 +90,15 @@ impl<F: Files + AllocGlobal + Clone + Drop, R: Rule + Drop> PosixStore<F, R> {
     fn look(&self, path: &Path) -> io::Result<bool> {
         has_file(&self.rt, self.place_of(path)?.as_str())
     }
+
+    fn carry(&self, from: &Path, to: &Path) -> io::Result<bool> {
+        let (from, to) = (self.place_of(from)?, self.place_of(to)?);
+        move_file(&self.rt, from.as_str(), to.as_str())
+    }
+
+    fn unlink(&self, path: &Path) -> io::Result<bool> {
+        remove_file(&self.rt, self.place_of(path)?.as_str())
+    }
 }
 
 impl<F: Files + AllocGlobal + Clone + Drop, R: Rule + Drop> Store<R> for PosixStore<F, R> {
@@ -124,6 +135,16 @@ impl<F: Files + AllocGlobal + Clone + Drop, R: Rule + Drop> Store<R> for PosixSt
     fn put(&mut self, path: &Path, bytes: &[u8]) -> Result<(), StoreError> {
         let id = Uuid::new_v4(&mut self.ids);
         let given = replace_file(&self.rt, self.root.as_str(), &id, path, bytes);
+        answer(given, &mut self.faults)
+    }
+
+    fn shift(&mut self, from: &Path, to: &Path) -> Result<bool, StoreError> {
+        let given = self.carry(from, to);
+        answer(given, &mut self.faults)
+    }
+
+    fn remove(&mut self, path: &Path) -> Result<bool, StoreError> {
+        let given = self.unlink(path);
         answer(given, &mut self.faults)
     }
 
@@ -241,6 +262,72 @@ mod tests {
         assert_eq!(rt; listing(&rt, &mut store, "d")?.as_str(), "Nine,link,ten,");
         assert_eq!(rt; listing(&rt, &mut store, "d/e")?.as_str(), "low,");
         assert_eq!(rt; store.faults, 0);
+        fs::remove_dir_all(&rt, store.root.as_str())?;
+        Ok(())
+    }
+
+    /// The answer of a move or a removal in a word.
+    fn word_of(answer: Result<bool, StoreError>) -> &'static str {
+        match answer {
+            Ok(true) => "true",
+            Ok(false) => "false",
+            Err(_) => "failed",
+        }
+    }
+
+    /// What a move of a file answers, and what then stands at its old and its new path.
+    fn moved(rt: &HostRuntime, store: &mut Tested, from: &str, to: &str) -> Result<String, Fail> {
+        let answer = word_of(store.shift(&path(rt, from)?, &path(rt, to)?));
+        let (left, made) = (text_at(rt, store, from)?, text_at(rt, store, to)?);
+        Ok(format!(in rt.alloc(); "{answer} {left} {made}")?)
+    }
+
+    #[test]
+    fn moves_files(rt: HostRuntime) -> Result<(), Fail> {
+        let mut store = fresh(&rt)?;
+        store.put(&path(&rt, "a")?, b"first")?;
+        store.put(&path(&rt, "b")?, b"next")?;
+        for (from, to, want) in [
+            ("a", "d/e/c", "true - first"),
+            ("b", "d/e/c", "true - next"),
+            ("d/e/c", "d/e/c", "true next next"),
+            ("none/a", "d/e/c", "false - next"),
+        ] {
+            assert_eq!(rt; moved(&rt, &mut store, from, to)?.as_str(), want);
+        }
+        assert_eq!(rt; store.faults, 0);
+        fs::remove_dir_all(&rt, store.root.as_str())?;
+        Ok(())
+    }
+
+    /// What a removal answers in a word.
+    fn removed(rt: &HostRuntime, store: &mut Tested, file: &str) -> Result<&'static str, Fail> {
+        Ok(word_of(store.remove(&path(rt, file)?)))
+    }
+
+    #[test]
+    fn removes_files(rt: HostRuntime) -> Result<(), Fail> {
+        let mut store = fresh(&rt)?;
+        store.put(&path(&rt, "d/a")?, b"1")?;
+        store.put(&path(&rt, "d/b")?, b"2")?;
+        for (file, want) in [("d/a", "true"), ("d/a", "false"), ("none/a", "false")] {
+            assert_eq!(rt; removed(&rt, &mut store, file)?, want);
+        }
+        assert_eq!(rt; listing(&rt, &mut store, "d")?.as_str(), "b,");
+        assert_eq!(rt; store.faults, 0);
+        fs::remove_dir_all(&rt, store.root.as_str())?;
+        Ok(())
+    }
+
+    #[test]
+    fn a_directory_is_not_moved_over_or_removed(rt: HostRuntime) -> Result<(), Fail> {
+        let mut store = fresh(&rt)?;
+        store.put(&path(&rt, "a")?, b"1")?;
+        store.put(&path(&rt, "d/b")?, b"2")?;
+        let (file, dir) = (path(&rt, "a")?, path(&rt, "d")?);
+        assert_eq!(rt; word_of(store.shift(&file, &dir)), "failed");
+        assert_eq!(rt; removed(&rt, &mut store, "d")?, "failed");
+        assert_eq!(rt; store.faults, 2);
         fs::remove_dir_all(&rt, store.root.as_str())?;
         Ok(())
     }
