@@ -1,0 +1,5 @@
+pub mod TaskCounts
+pub mod Splits
+pub mod ChunkLists
+pub mod Texts
+pub mod Verdicts

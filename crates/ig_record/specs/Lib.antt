@@ -1,0 +1,13 @@
+pub mod Stage
+pub mod Sound
+pub mod SoundFacts
+pub mod Members
+pub mod Record
+pub mod Answers
+pub mod Reading
+pub mod SmallNumbers
+pub mod ReadBack
+pub mod RecordBack
+pub mod StageBack
+pub mod ReadingLaws
+pub mod TaskLaws

@@ -1,0 +1,28 @@
+//! Stages and their tasks: what a stage reads and writes, when it is sound, and the one text of each stage and of each task
+//! in the files of a queue. It stands on places of layers (`ig_space`) and on `serde_json`.
+#![tactic(auto)]
+
+mod error;
+mod filed;
+mod lists;
+mod members;
+mod parse;
+mod read_place;
+mod recorded;
+#[cfg(test)]
+mod samples;
+mod soundness;
+mod stage;
+mod task;
+mod tasks;
+#[cfg(test)]
+mod tests;
+mod writing;
+
+pub use error::RecordError;
+pub use filed::read_task;
+pub use lists::{dirs, inputs, paths, removed};
+pub use recorded::read_stage;
+pub use stage::{InfoFile, Kind, Places, Stage};
+pub use task::write_task;
+pub use writing::write_stage;
