@@ -1,0 +1,5 @@
+pub mod Marks
+pub mod Numbers
+pub mod Parsed
+pub mod Segments
+pub mod Written
