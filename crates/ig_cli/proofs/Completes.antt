@@ -9,7 +9,8 @@ use Rattle.ig_meaning.specs.Ending.{Finished, Refuses, StoreFailed, NoMemory}
 use Rattle.ig_meaning.specs.Fault.{making_of_copy}
 use Rattle.ig_meaning.specs.Plan.{stage_of_command}
 use Rattle.ig_meaning.specs.Refusal.{Refusal}
-use Rattle.ig_meaning.specs.Stage.{Stage, info_files, sequential}
+use Rattle.ig_record.specs.declared.stage.Stage.{Stage}
+use Rattle.ig_meaning.specs.Stage.{info_files, sequential}
 use Rattle.ig_meaning.specs.Words.{Command, command_of}
 use Rattle.ig_cli.specs.declared.report.CommandError.{CommandError}
 use Rattle.ig_cli.specs.Did.{moments_from}

@@ -1,41 +1,27 @@
 -- A copy that is planned is a draft.
-use Rattle.std.proofs.Common.{◌≡◌, ◌≢◌, ◌≤◌, ◌+◌, ◌^◌, ◌*◌, ℕ, zero, suc, ◌&&◌, Bool, true, nat_le, List, [], ◌∷◌, length, Some, slice_get, refl, ap, sym, ◌∙◌, subst, arith, leb-true, length-append, lit≤}
+use Rattle.std.proofs.Common.{◌≡◌, ◌≢◌, ◌≤◌, ◌+◌, ◌^◌, ◌*◌, ℕ, suc, ◌&&◌, true, nat_le, List, ◌∷◌, length, ap, sym, ◌∙◌, subst, arith, leb-true, length-append, lit≤}
 use Rattle.std.proofs.Math.Nat.{mul-le-mul_left, le_trans}
 use Rattle.std.proofs.lemmas.List.{append_cancel_right}
 use Rattle.std.proofs.lemmas.Bool.{and_parts}
 use Rattle.std.specs.Ordering.{nat_cmp, ord_max}
 use Rattle.std.specs.Prelude.{max}
 use Rattle.std.proofs.lemmas.Bool.Decides.{nat_tests}
-use Rattle.std.specs.List.{list_all}
 use Rattle.ig_space.specs.declared.point.Point.{Point}
-use Rattle.ig_space.specs.declared.geometry.Encoding.{Encoding}
-use Rattle.ig_space.specs.declared.geometry.Encoding.TheVariants.{Raw, Cseg}
 use Rattle.ig_space.specs.declared.geometry.Geometry.{Geometry}
 use Rattle.ig_space.specs.declared.place.Place.{Place}
 use Rattle.ig_space.specs.Geometry.{Fits-from, all_within, count, geometry_fits, largest_chunk}
 use Rattle.ig_space.specs.Path.{is_path, joined}
 use Rattle.ig_info.specs.declared.scale.Scale.{Scale}
-use Rattle.ig_info.specs.Reading.{is_raw}
 use Rattle.ig_info.specs.Scale.{scale_fits}
 use Rattle.ig_meaning.specs.Options.{largest_value}
 use Rattle.ig_meaning.specs.Plan.{info_path, new_scale, place_in}
-use Rattle.ig_meaning.specs.Stage.{greatest}
+use Rattle.ig_record.specs.Stage.{greatest}
 use Rattle.ig_cli.specs.declared.stage.Stage.{Stage}
 use Rattle.ig_cli.specs.declared.words.Request.{Request}
 use Rattle.ig_cli.specs.Stages.{IsDraft}
 use Rattle.ig_cli.specs.Options.{HasSides}
 use Rattle.ig_cli.specs.Words.{HasLimits, shown_request}
 use Rattle.ig_cli.proofs.InfoApart.{apart}
-
--- what all items pass, the one at a place does
-pub passes : {A : Type 0} (p : A → Bool) (xs : List A) (k : ℕ) (x : A) → list_all p xs ≡ true → Some x ≡ slice_get xs k → p x ≡ true
-passes p [] k x all is = let no_item : ⊥ = cc in absurd no_item
-passes p (y ∷ ys) zero x all is = let same : x ≡ y = cc in ap p same ∙ (and_parts (p y) (list_all p ys) all).0
-passes p (y ∷ ys) (suc k) x all is = passes p ys k x (and_parts (p y) (list_all p ys) all).1 is
-
-raw : (e : Encoding) → is_raw e ≡ true → e ≡ Raw
-raw Raw h = refl
-raw (Cseg block) h = let no_way : ⊥ = cc in absurd no_way
 
 -- ---- no side of a chunk is longer than it has voxels
 le_times : (x n : ℕ) → 1 ≤ n → x ≤ x * n
@@ -89,10 +75,10 @@ dirs_apart : (source dest key : List ℕ) → source ≢ dest → joined source 
 dirs_apart source dest key differ e = differ (append_cancel_right source dest (47 ∷ key) e)
 
 -- the copy of a scale that is read, in the chunks that are asked for
-pub draft : (s : Stage) (r : Request) (scale new : Scale) → HasLimits r → is_raw scale.geometry.encoding ≡ true → scale_fits scale ≡ true → scale_fits new ≡ true
+pub draft : (s : Stage) (r : Request) (scale new : Scale) → HasLimits r → scale_fits scale ≡ true → scale_fits new ≡ true
     → new ≡ new_scale (shown_request r) scale → s.source ≡ place_in r.source scale → s.dest ≡ place_in r.dest new → s.info.path ≡ info_path r.dest
     → 1 ≤ s.shape.x → 1 ≤ s.shape.y → 1 ≤ s.shape.z → IsDraft s
-draft s r scale new limits plain fits new_fits as_new from to info x y z =
+draft s r scale new limits fits new_fits as_new from to info x y z =
     let source_dir : s.source.dir ≡ joined r.source scale.key = ap (λ (p : Place). p.dir) from in
     let key : new.key ≡ scale.key = ap (λ (n : Scale). n.key) as_new in
     let dest_dir : s.dest.dir ≡ joined r.dest scale.key = ap (λ (p : Place). p.dir) to ∙ ap (joined r.dest) key in
@@ -102,8 +88,6 @@ draft s r scale new limits plain fits new_fits as_new from to info x y z =
     record {
       source_fits = ap geometry_fits source ∙ geometry_of_fitting scale fits;
       dest_fits = ap geometry_fits dest ∙ geometry_of_fitting new new_fits;
-      source_raw = ap (λ (g : Geometry). g.encoding) source ∙ raw scale.geometry.encoding plain;
-      dest_raw = ap (λ (g : Geometry). g.encoding) made ∙ raw scale.geometry.encoding plain;
       offset = ap (λ (g : Geometry). g.offset) made ∙ sym (ap (λ (g : Geometry). g.offset) source);
       size = ap (λ (g : Geometry). g.size) made ∙ sym (ap (λ (g : Geometry). g.size) source);
       width = ap (λ (g : Geometry). g.width) made ∙ sym (ap (λ (g : Geometry). g.width) source);

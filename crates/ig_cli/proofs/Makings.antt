@@ -14,7 +14,7 @@ use Rattle.ig_meaning.specs.Plan.{info_path, planned}
 use Rattle.ig_meaning.specs.Stage.{unfit}
 use Rattle.ig_meaning.specs.Words.{Request}
 use Rattle.ig_meaning.specs.Refusal as refusal
-use Rattle.ig_meaning.specs.Stage as meaning
+use Rattle.ig_record.specs.declared.stage.Stage as meaning
 use Rattle.ig_meaning.specs.Ending.{Ending, Finished, Refuses, StoreFailed, NoMemory}
 use Rattle.ig_cli.specs.Did.{Did, moments_from}
 use Rattle.ig_cli.specs.declared.making.MakeError.{MakeError}

@@ -12,7 +12,7 @@ use Rattle.ig_meaning.specs.Ending.{Ending, Finished, Refuses, StoreFailed, NoMe
 use Rattle.ig_meaning.specs.Fault.{Making, Refused, Planned, fault_of, fault_of_making, making_of, making_of_command, making_of_copy}
 use Rattle.ig_meaning.specs.Plan.{info_path, stage_of, stage_of_command, stage_of_found}
 use Rattle.ig_meaning.specs.Refusal as refusal
-use Rattle.ig_meaning.specs.Stage as meaning
+use Rattle.ig_record.specs.declared.stage.Stage as meaning
 use Rattle.ig_meaning.specs.Words.{Copy, Request, command_of}
 use Rattle.ig_cli.specs.declared.making.MakeError.{MakeError}
 use Rattle.ig_cli.specs.declared.making.MakeError.TheVariants.{Missing, BadInfo, NoScale, DestNotEmpty, ShapeUnfit, TooManyTasks, TaskTooLarge, Failed, Memory}

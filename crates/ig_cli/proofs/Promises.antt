@@ -12,7 +12,10 @@ use Rattle.ig_meaning.specs.Fault.{Making, Refused, Unfinished, Planned, fault_o
 use Rattle.ig_meaning.specs.Lines.{fault_line, memory_text, ran_line, stage_line, store_text, words_text}
 use Rattle.ig_meaning.specs.Plan.{stage_of, stage_of_command}
 use Rattle.ig_meaning.specs.Refusal.{Refusal}
-use Rattle.ig_meaning.specs.Stage.{Stage, Xfer, planned_puts, task_count}
+use Rattle.ig_record.specs.declared.stage.Stage.{Stage}
+use Rattle.ig_record.specs.declared.stage.Kind.TheVariants.{Xfer}
+use Rattle.ig_record.specs.Stage.{task_count}
+use Rattle.ig_meaning.specs.Stage.{planned_puts}
 use Rattle.ig_meaning.specs.Words.{command_of}
 use Rattle.ig_cli.specs.declared.making.MakeError.TheVariants.{Missing as make_missing, BadInfo, NoScale, DestNotEmpty, ShapeUnfit, TooManyTasks, TaskTooLarge, Failed, Memory as make_memory}
 use Rattle.ig_cli.specs.declared.report.CommandError.{CommandError}

@@ -9,13 +9,15 @@ use Rattle.ig_defs.specs.declared.step.Act.TheVariants as act
 use Rattle.ig_defs.specs.Files.{Files, file_at}
 use Rattle.ig_defs.specs.Log.{after}
 use Rattle.ig_defs.specs.Names.{Stands}
-use Rattle.ig_defs.specs.Own.{File, Moment}
+use Rattle.ig_defs.specs.Own.{Moment}
 use Rattle.ig_defs.specs.Replay.{AreQuiet, after-quiet}
 use Rattle.ig_meaning.specs.Call.{AllEmpty, IsReady}
 use Rattle.ig_meaning.specs.Fault.{Making, Refused, Unfinished, Planned, given_by, lists, making_of_copy, making_of_dirs, making_of_fit, making_of_found, making_of_info, making_of_names, making_of_plan, making_of_source, reads, where_it_looks}
 use Rattle.ig_meaning.specs.Plan.{info_path, planned, stage_of_command, stage_of_found}
 use Rattle.ig_meaning.specs.Refusal.{Refusal}
-use Rattle.ig_meaning.specs.Stage.{Stage, unfit}
+use Rattle.ig_record.specs.declared.stage.Stage.{Stage}
+use Rattle.ig_record.specs.declared.stage.InfoFile.{InfoFile}
+use Rattle.ig_meaning.specs.Stage.{unfit}
 use Rattle.ig_meaning.specs.Words.{Copy, Request, command_of}
 use Rattle.ig_cli.specs.Did.{moments_from}
 use Rattle.ig_cli.specs.Making.{ListsTruly}
@@ -80,7 +82,7 @@ free_found : (s : Stage) (path : List ℕ) (found : Option (List ℕ)) (ms : Lis
 free_found s path None ms none free = free
 free_found s path (Some bytes) ms none free = let no_way : ⊥ = cc in absurd no_way
 
-free_info : (s : Stage) (info : Option File) (files : Files) (acts : List Act) → ((file : File) → info ≡ Some file → file_at files file.path ≡ None)
+free_info : (s : Stage) (info : Option InfoFile) (files : Files) (acts : List Act) → ((file : InfoFile) → info ≡ Some file → file_at files file.path ≡ None)
     → unfit s ≡ None → AllEmpty files s.dests → AreQuiet acts → ListsTruly files acts → IsFree (making_of_info s info (moments_from files acts))
 free_info s None files acts absent fits empty quiet truly = free_dirs s s.dests files acts fits empty quiet truly
 free_info s (Some file) files [] absent fits empty quiet truly = tt
@@ -91,7 +93,7 @@ free_info s (Some file) files (a ∷ acts) absent fits empty quiet truly =
     (free_dirs s s.dests files acts fits empty quiet.1 (truly_after files a acts truly))))
 
 -- what nothing keeps from being run
-module _ (request : Request) (s : Stage) (files : Files) (absent : (file : File) → s.info ≡ Some file → file_at files file.path ≡ None) (fits : unfit s ≡ None)
+module _ (request : Request) (s : Stage) (files : Files) (absent : (file : InfoFile) → s.info ≡ Some file → file_at files file.path ≡ None) (fits : unfit s ≡ None)
     (empty : AllEmpty files s.dests) where
   free_plan : (plan : Result Stage Refusal) (acts : List Act) → result_ok plan ≡ Some s → AreQuiet acts → ListsTruly files acts → IsFree (making_of_plan plan (moments_from files acts))
   free_plan (Ok other) acts is quiet truly =

@@ -17,9 +17,12 @@ use Rattle.ig_meaning.specs.Fault.{fault_of_run, fault_of_tasks, finds_in, finds
 use Rattle.ig_meaning.specs.Refusal.{Refusal}
 use Rattle.ig_meaning.specs.RefusedTasks.{refused-none}
 use Rattle.ig_meaning.specs.Sequential.{sequential-wanted}
-use Rattle.ig_meaning.specs.Stage.{Stage, info_files, input_count, inputs_of, planned_puts, run_tasks, task_box, task_count, task_grid}
+use Rattle.ig_record.specs.declared.stage.Stage.{Stage}
+use Rattle.ig_record.specs.declared.stage.InfoFile.{InfoFile}
+use Rattle.ig_record.specs.Stage.{inputs_of, task_box, task_count, task_grid}
+use Rattle.ig_meaning.specs.Stage.{file_of, info_files, input_count, input_path, planned_puts, run_tasks}
 use Rattle.ig_meaning.specs.TaskBoxes.{task_box-within, task_grid-IsGrid}
-use Rattle.ig_meaning.specs.Tasks.{fault_of_tasks-goes_on, fault_of_tasks-refuses, fault_of_tasks-unread, files-stop, length-listed, puts-grow, puts-stop, run_tasks-next, run_tasks-refuses}
+use Rattle.ig_meaning.specs.Tasks.{fault_of_tasks-goes_on, fault_of_tasks-refuses, fault_of_tasks-unread, files-stop, inputs_of-copy, length-listed, puts-grow, puts-stop, run_tasks-next, run_tasks-refuses}
 use Rattle.ig_cli.specs.Did.{Did, not_made, was_made, after_all, moments_from}
 use Rattle.ig_cli.specs.Running.{FailsTask, FailsToPut, PutsOfTask, Runs, RunsSome, in_reading, in_putting, while_reading, while_putting, ending_of, ending_of_local, puts_all, reads_all}
 use Rattle.ig_cli.specs.declared.running.LocalError.{LocalError}
@@ -38,7 +41,7 @@ few_of xs n fewer = let long = length-take n xs in omega (arith, long, fewer)
 first_of-more : {A : Type 0} (xs more all : List A) → all ≡ xs ++ more → AreFirst xs all
 first_of-more xs more all is = record { number = length xs; are = sym (ap (take (length xs)) is ∙ take-all xs more) }
 
-module _ (s : Stage) (dest : Place) (info : File) (copy : IsCopy s dest info) where
+module _ (s : Stage) (dest : Place) (info : InfoFile) (copy : IsCopy s dest info) where
   -- each task has an input
   inputs-some : (k : ℕ) → k < task_count s → 0 < length (inputs_of s k)
   inputs-some k below =
@@ -48,7 +51,7 @@ module _ (s : Stage) (dest : Place) (info : File) (copy : IsCopy s dest info) wh
       let within = task_box-within s dest info copy k below in
       let inside = hull-holds g box grid within _ _ _ (low-in_cell (task_grid s) (task_grid-IsGrid s dest info copy) k below) in
       let lower = number_at-below (hull g box) (hull-IsGrid g box grid within) _ _ _ inside in
-      subst (λ n. 0 < n) (sym (length-listed _ (input_count s k))) (omega (arith, lower))
+      subst (λ n. 0 < n) (sym (ap length (inputs_of-copy s copy.kind k) ∙ length-listed (input_path s k) (input_count s k))) (omega (arith, lower))
 
   -- where nothing more was read there is no refusal
   no_more : (left k : ℕ) → left + k ≤ task_count s → fault_of_tasks s left k [] ≡ None
@@ -77,15 +80,15 @@ module _ (s : Stage) (dest : Place) (info : File) (copy : IsCopy s dest info) wh
     idle : fault_of_tasks s (task_count s) 0 [] ≡ None
     idle = no_more (task_count s) 0 (omega arith)
 
-    one_info : planned_puts s (files_of old) ≡ info ∷ (run_tasks s begun (task_count s)).puts
+    one_info : planned_puts s (files_of old) ≡ file_of info ∷ (run_tasks s begun (task_count s)).puts
     unfolding begun
     one_info = ap (λ i. info_files i ++ (run_tasks s (put_all (files_of old) (info_files s.info)) (task_count s)).puts) copy.has_info
 
     -- the info was not put
-    pub info_failed : (new : Log) (e : Ending) → FailsToPut old new info.path info.bytes e → Runs s old new e
+    pub info_failed : (new : Log) (e : Ending) → FailsToPut old new info.path info.text e → Runs s old new e
     info_failed new StoreFailed (not_made did) = store_failed new [] did refl idle (first_of-more [] (planned_puts s (files_of old)) (planned_puts s (files_of old)) refl)
     info_failed new StoreFailed (was_made did) =
-        store_failed new (act.Put info.path info.bytes ∷ []) did refl idle (first_of-more (info ∷ []) (run_tasks s begun (task_count s)).puts (planned_puts s (files_of old)) one_info)
+        store_failed new (act.Put info.path info.text ∷ []) did refl idle (first_of-more (file_of info ∷ []) (run_tasks s begun (task_count s)).puts (planned_puts s (files_of old)) one_info)
     info_failed new NoMemory did = no_memory new [] did refl (first_of-more [] (planned_puts s (files_of old)) (planned_puts s (files_of old)) refl)
     info_failed new (Refuses r) fails = absurd fails
     info_failed new Finished fails = absurd fails
@@ -150,7 +153,7 @@ module _ (s : Stage) (dest : Place) (info : File) (copy : IsCopy s dest info) wh
             files = read_files new paths h.0;
             run = record {
               fault = read_fault new paths h.0 ∙ ap (λ m. fault_of_tasks s m n (finds_in (file_at (files_of mid)) paths)) left
-                  ∙ fault_of_tasks-refuses s (task_count s - (n + 1)) n (file_at (files_of mid)) r h.1;
+                  ∙ fault_of_tasks-refuses s copy.kind (task_count s - (n + 1)) n (file_at (files_of mid)) r h.1;
               puts = read_puts new paths h.0
                   ∙ ap (λ puts. info_files s.info ++ puts) (sym stops.1 ∙ sym (puts-stop s begun (suc n) (task_count s) below stops.0));
               reads = tt;
@@ -200,7 +203,7 @@ module _ (s : Stage) (dest : Place) (info : File) (copy : IsCopy s dest info) wh
             ap (fault_of_tasks s (task_count s) 0) (sym (append-nil (finds_of (moments_from (files_of old) (so.acts ++ put_acts)))) ∙ all_finds s old mid new n below so put_acts part.did []
             ∙ ap (λ found. finds_of (moments_from (files_of old) so.acts) ++ (found ++ [])) (finds_of-task s n (files_of mid) (take number outputs)))
             ∙ so.fault (finds ++ []) ∙ ap (λ m. fault_of_tasks s m n (finds ++ [])) left
-            ∙ fault_of_tasks-goes_on s (task_count s - (n + 1)) n (file_at (files_of mid)) [] part.fine
+            ∙ fault_of_tasks-goes_on s copy.kind (task_count s - (n + 1)) n (file_at (files_of mid)) [] part.fine
             ∙ no_more (task_count s - (n + 1)) (n + 1) (omega (arith, below))
 
         put_did : Did old new (so.acts ++ put_acts)

@@ -12,7 +12,11 @@ use Rattle.ig_defs.specs.Own.{File, put_all, puts_of, reads_of}
 use Rattle.ig_defs.specs.Puts.{put_all-append}
 use Rattle.ig_meaning.specs.Copies.{IsCopy}
 use Rattle.ig_meaning.specs.Fault.{Find, fault_of_tasks, finds_in, finds_of}
-use Rattle.ig_meaning.specs.Stage.{Stage, flattened, info_files, inputs_of, run_tasks, task_count}
+use Rattle.ig_record.specs.declared.stage.Stage.{Stage}
+use Rattle.ig_record.specs.declared.stage.InfoFile.{InfoFile}
+use Rattle.ig_record.specs.declared.stage.Kind.TheVariants.{Xfer}
+use Rattle.ig_record.specs.Stage.{inputs_of, task_count}
+use Rattle.ig_meaning.specs.Stage.{flattened, info_files, run_tasks}
 use Rattle.ig_meaning.specs.Tasks.{fault_of_tasks-goes_on, run_tasks-next}
 use Rattle.ig_cli.specs.Did.{Did, after_all, moments_from}
 use Rattle.ig_cli.specs.Running.{RunsSome, TaskDone, puts_all, reads_all}
@@ -56,9 +60,9 @@ flattened-append [] yss = refl
 flattened-append (xs ∷ xss) yss = ap (λ rest. xs ++ rest) (flattened-append xss yss) ∙ sym (append_assoc xs (flattened xss) (flattened yss))
 
 -- ---- the run begins with its info
-pub run_begins : (s : Stage) (dest : Place) (info : File) → IsCopy s dest info → (old new : Log) → Did old new (act.Put info.path info.bytes ∷ []) → RunsSome s old new 0
+pub run_begins : (s : Stage) (dest : Place) (info : InfoFile) → IsCopy s dest info → (old new : Log) → Did old new (act.Put info.path info.text ∷ []) → RunsSome s old new 0
 run_begins s dest info copy old new did = record {
-  acts = act.Put info.path info.bytes ∷ [];
+  acts = act.Put info.path info.text ∷ [];
   did = did;
   files = refl;
   now = ap (λ i. Some (put_all (files_of old) (info_files i))) copy.has_info ∙ ap Some (sym did.files);
@@ -107,8 +111,8 @@ module _ (s : Stage) (old mid new : Log) (n : ℕ) (below : n < task_count s) (s
   task_whole : (outputs : List File) (number : ℕ) → number ≡ length outputs → take number outputs ≡ outputs
   task_whole outputs number is = ap (λ m. take m outputs) is ∙ take-length outputs
 
-  pub run_goes_on : TaskDone s n mid new → RunsSome s old new (n + 1)
-  run_goes_on done =
+  pub run_goes_on : s.kind ≡ Xfer → TaskDone s n mid new → RunsSome s old new (n + 1)
+  run_goes_on copies done =
       let outputs = done.outputs in
       let acts = reads_all (inputs_of s n) ++ puts_all outputs in
       let did : Did mid new acts = subst (λ files. Did mid new (reads_all (inputs_of s n) ++ puts_all files)) (take-length outputs) done.puts.did in
@@ -130,5 +134,5 @@ module _ (s : Stage) (old mid new : Log) (n : ℕ) (below : n < task_count s) (s
             ap (fault_of_tasks s (task_count s) 0) (all_finds acts did rest ∙ ap (λ found. finds_of (moments_from (files_of old) so.acts) ++ (found ++ rest)) (finds_of-task s n (files_of mid) outputs))
             ∙ so.fault (finds_in (file_at (files_of mid)) (inputs_of s n) ++ rest)
             ∙ ap (λ m. fault_of_tasks s m n (finds_in (file_at (files_of mid)) (inputs_of s n) ++ rest)) left
-            ∙ fault_of_tasks-goes_on s (task_count s - (n + 1)) n (file_at (files_of mid)) rest done.puts.fine;
+            ∙ fault_of_tasks-goes_on s copies (task_count s - (n + 1)) n (file_at (files_of mid)) rest done.puts.fine;
       }

@@ -10,8 +10,11 @@ use Rattle.ig_layer.specs.Texts.{files_in}
 use Rattle.ig_meaning.specs.Copies.{IsCopy}
 use Rattle.ig_meaning.specs.Refusal as refusal
 use Rattle.ig_meaning.specs.Refusal.{Refusal, refusal_of}
-use Rattle.ig_meaning.specs.Stage as meaning
-use Rattle.ig_meaning.specs.Stage.{absent_in, first_absent, input_count, input_path, inputs_of, task_box, task_files, task_refusal}
+use Rattle.ig_record.specs.declared.stage.Stage as meaning
+use Rattle.ig_record.specs.declared.stage.Kind.TheVariants.{Xfer}
+use Rattle.ig_record.specs.Stage.{inputs_of, task_box}
+use Rattle.ig_meaning.specs.Stage.{absent_in, appended, files_of_dests, first_absent, input_count, input_path, task_refusal, wanted_volume}
+use Rattle.ig_meaning.specs.Tasks.{inputs_of-copy}
 use Rattle.ig_cutout.specs.declared.types.Input.{Input}
 use Rattle.ig_cutout.specs.declared.types.Output.{Output}
 use Rattle.ig_cutout.specs.declared.error.CutError.{CutError}
@@ -19,20 +22,19 @@ use Rattle.ig_cutout.specs.declared.error.CutError.TheVariants as cut
 use Rattle.ig_cutout.specs.Inputs.{HoldsAll, Says, paths_of}
 use Rattle.ig_cutout.specs.Outputs.{output_of}
 use Rattle.ig_cli.specs.declared.stage.Stage.{Stage}
-use Rattle.ig_cli.specs.Stages.{CanRun, shown, shown_info}
+use Rattle.ig_cli.specs.Stages.{CanRun, shown}
 use Rattle.ig_cli.specs.Tasks.{MakesFiles, RefusesTask, missing_path, run_error_of}
 
 -- a stage that can be run is a copy
-pub copy_of : (s : Stage) → CanRun s → IsCopy (shown s) s.dest (shown_info s.info)
+pub copy_of : (s : Stage) → CanRun s → IsCopy (shown s) s.dest s.info
 copy_of s can =
     let d = can.draft in
     record {
+      kind = refl;
       dests = refl;
       has_info = refl;
       source_fits = d.source_fits;
       dest_fits = d.dest_fits;
-      source_raw = d.source_raw;
-      dest_raw = d.dest_raw;
       offset = d.offset;
       size = d.size;
       width = d.width;
@@ -84,11 +86,11 @@ first_of-listed files f (suc n) =
     ∙ sym (mapped_or (λ p. refusal.Missing p) (first_in files (listed f n)) (first_in files (f n ∷ [])))
     ∙ ap (option_map (λ p. refusal.Missing p)) (sym (first_in-append files (listed f n) (f n ∷ [])))
 
-module _ (s : meaning.Stage) (k : ℕ) (files : Reading) (inputs : List Input) (holds : HoldsAll files inputs) (paths : paths_of inputs ≡ inputs_of s k) where
+module _ (s : meaning.Stage) (copies : s.kind ≡ Xfer) (k : ℕ) (files : Reading) (inputs : List Input) (holds : HoldsAll files inputs) (paths : paths_of inputs ≡ inputs_of s k) where
   absent-missing : first_absent s k files ≡ option_map (λ p. refusal.Missing p) (missing_path inputs)
   absent-missing =
       first_of-listed files (input_path s k) (input_count s k)
-      ∙ ap (λ all. option_map (λ p. refusal.Missing p) (first_in files all)) (sym paths)
+      ∙ ap (λ all. option_map (λ p. refusal.Missing p) (first_in files all)) (sym (paths ∙ inputs_of-copy s copies k))
       ∙ ap (option_map (λ p. refusal.Missing p)) (sym (missing_in_files files inputs holds))
 
   pub refused-missing : (path : List ℕ) → missing_path inputs ≡ Some path → task_refusal s k files ≡ Some (refusal.Missing path)
@@ -105,25 +107,25 @@ says_refuses (cut.Missing path) fault says = ap (option_map refusal_of) says
 says_refuses (cut.Malformed path cause) fault says = ap (option_map refusal_of) says
 says_refuses cut.Memory fault says = tt
 
-pub refused-cut : (s : meaning.Stage) (k : ℕ) (files : Reading) (inputs : List Input) (e : CutError) → HoldsAll files inputs → paths_of inputs ≡ inputs_of s k → missing_path inputs ≡ None
+pub refused-cut : (s : meaning.Stage) → s.kind ≡ Xfer → (k : ℕ) (files : Reading) (inputs : List Input) (e : CutError) → HoldsAll files inputs → paths_of inputs ≡ inputs_of s k → missing_path inputs ≡ None
     → Says e (first_fault s.source (task_box s k) files) → RefusesTask (run_error_of e) (task_refusal s k files)
-refused-cut s k files inputs e holds paths found says =
-    subst (RefusesTask (run_error_of e)) (sym (refused-fault s k files inputs holds paths found)) (says_refuses e (first_fault s.source (task_box s k) files) says)
+refused-cut s copies k files inputs e holds paths found says =
+    subst (RefusesTask (run_error_of e)) (sym (refused-fault s copies k files inputs holds paths found)) (says_refuses e (first_fault s.source (task_box s k) files) says)
 
 -- ---- the files of a task
 mapped_some : (o : Option (List File)) (outputs : List Output) → option_map (map output_of) o ≡ Some outputs → (made : List File) × (o ≡ Some made) × (outputs ≡ map output_of made)
 mapped_some None outputs e = let no_way : ⊥ = cc in absurd no_way
 mapped_some (Some made) outputs e = (made, refl, cc)
 
-pub makes_files : (s : meaning.Stage) (dest : Place) (k : ℕ) (files : Reading) (inputs : List Input) (outputs : List Output) → s.dests ≡ dest ∷ [] → HoldsAll files inputs → paths_of inputs ≡ inputs_of s k
+pub makes_files : (s : meaning.Stage) → s.kind ≡ Xfer → (dest : Place) (k : ℕ) (files : Reading) (inputs : List Input) (outputs : List Output) → s.dests ≡ dest ∷ [] → HoldsAll files inputs → paths_of inputs ≡ inputs_of s k
     → missing_path inputs ≡ None → first_fault s.source (task_box s k) files ≡ None
-    → option_map (map output_of) (files_in dest (meaning.wanted_volume s.kind (volume_at files s.source)) (task_box s k)) ≡ Some outputs → MakesFiles s k files outputs
-makes_files s dest k files inputs outputs one holds paths found sound cut =
-    let p = mapped_some (files_in dest (meaning.wanted_volume s.kind (volume_at files s.source)) (task_box s k)) outputs cut in
+    → option_map (map output_of) (files_in dest (wanted_volume s.kind (volume_at files s.source)) (task_box s k)) ≡ Some outputs → MakesFiles s k files outputs
+makes_files s copies dest k files inputs outputs one holds paths found sound cut =
+    let p = mapped_some (files_in dest (wanted_volume s.kind (volume_at files s.source)) (task_box s k)) outputs cut in
     record {
-      fine = refused-fault s k files inputs holds paths found ∙ ap (option_map refusal_of) sound;
+      fine = refused-fault s copies k files inputs holds paths found ∙ ap (option_map refusal_of) sound;
       made = p.0;
-      are = ap (λ dests. meaning.files_of_dests dests (meaning.wanted_volume s.kind (volume_at files s.source)) (task_box s k)) one
-          ∙ ap (λ made. meaning.appended made (Some [])) p.1 ∙ ap Some (append-nil p.0);
+      are = ap (λ dests. files_of_dests dests (wanted_volume s.kind (volume_at files s.source)) (task_box s k)) one
+          ∙ ap (λ made. appended made (Some [])) p.1 ∙ ap Some (append-nil p.0);
       put = p.2;
     }

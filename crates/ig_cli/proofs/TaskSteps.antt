@@ -5,7 +5,8 @@ use Rattle.std.proofs.lemmas.List.{take-map}
 use Rattle.ig_defs.specs.Files.{file_at}
 use Rattle.ig_defs.specs.Log.{Log, files_of}
 use Rattle.ig_meaning.specs.Ending.{Ending, Finished, Refuses, StoreFailed, NoMemory}
-use Rattle.ig_meaning.specs.Stage.{Stage, inputs_of}
+use Rattle.ig_record.specs.declared.stage.Stage.{Stage}
+use Rattle.ig_record.specs.Stage.{inputs_of}
 use Rattle.ig_cutout.specs.declared.types.Output.{Output}
 use Rattle.ig_cutout.specs.Outputs.{output_of}
 use Rattle.ig_cli.specs.Did.{Did}

@@ -13,7 +13,7 @@ use Rattle.ig_defs.specs.Names.{Stands}
 use Rattle.ig_defs.specs.Own.{Moment}
 use Rattle.ig_defs.specs.Replay.{AreQuiet}
 use Rattle.ig_meaning.specs.Refusal as refusal
-use Rattle.ig_meaning.specs.Stage as meaning
+use Rattle.ig_record.specs.declared.stage.Stage as meaning
 use Rattle.ig_meaning.specs.Fault.{Making, Refused, Unfinished}
 use Rattle.ig_meaning.specs.Ending.{Ending, Finished, Refuses, StoreFailed, NoMemory}
 use Rattle.ig_cli.specs.declared.making.MakeError.{MakeError}

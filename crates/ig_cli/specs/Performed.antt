@@ -5,7 +5,7 @@ use Rattle.ig_defs.specs.Log.{Log, files_of}
 use Rattle.ig_meaning.specs.Ending.{Ending, NoMemory}
 use Rattle.ig_meaning.specs.Fault.{Planned, making_of_copy}
 use Rattle.ig_meaning.specs.Plan.{info_path, stage_of_found}
-use Rattle.ig_meaning.specs.Stage.{task_count}
+use Rattle.ig_record.specs.Stage.{task_count}
 use Rattle.ig_meaning.specs.Words.{Copy, Request, command_of}
 use Rattle.ig_cli.specs.declared.making.MakeError.{MakeError}
 use Rattle.ig_cli.specs.declared.report.CommandError.{CommandError}

@@ -7,7 +7,7 @@ use Rattle.ig_meaning.specs.Fault.{fault_of}
 use Rattle.ig_meaning.specs.Lines.{fault_line, refusal_text, stage_line}
 use Rattle.ig_meaning.specs.Plan.{stage_of}
 use Rattle.ig_meaning.specs.Refusal.{Refusal}
-use Rattle.ig_meaning.specs.Stage.{Stage}
+use Rattle.ig_record.specs.declared.stage.Stage.{Stage}
 
 -- the line of the stage that was run
 pub record HasPrinted (words : List (List ℕ)) (old : Log) (before now : List ℕ) : Type 0 where

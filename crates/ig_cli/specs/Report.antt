@@ -2,7 +2,7 @@
 use Rattle.std.specs.Prelude.{◌≡◌, ◌⊎◌, ◌==◌, if◌then◌else◌, ℕ, List, [], ◌++◌, Result, Ok, Err, string_bytes}
 use Rattle.ig_defs.specs.Causes.{Rose}
 use Rattle.ig_store.specs.Sink.{TakesPrefix}
-use Rattle.ig_meaning.specs.Stage.{Xfer}
+use Rattle.ig_record.specs.declared.stage.Kind.TheVariants.{Xfer}
 use Rattle.ig_meaning.specs.Ending.{Ending, Finished, Refuses, StoreFailed, NoMemory}
 use Rattle.ig_meaning.specs.Lines.{fault_line, memory_text, ran_line, refusal_text, store_text, words_text}
 use Rattle.ig_cli.specs.declared.lines.FaultLine.{FaultLine}

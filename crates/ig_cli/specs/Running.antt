@@ -7,7 +7,9 @@ use Rattle.ig_defs.specs.Log.{Log, files_of}
 use Rattle.ig_defs.specs.Own.{File, put_all, puts_of, reads_of}
 use Rattle.ig_space.specs.Chunks.{listed}
 use Rattle.ig_meaning.specs.Refusal as refusal
-use Rattle.ig_meaning.specs.Stage as meaning
+use Rattle.ig_record.specs.declared.stage.Stage.{Stage}
+use Rattle.ig_record.specs.Stage.{inputs_of, task_count}
+use Rattle.ig_meaning.specs.Stage.{flattened, info_files, run_tasks, task_files, task_refusal}
 use Rattle.ig_meaning.specs.Ending.{Ending, Finished, Refuses, StoreFailed, NoMemory, HasRun}
 use Rattle.ig_meaning.specs.Fault.{Find, fault_of_tasks, finds_of}
 use Rattle.ig_cutout.specs.declared.types.Input.{Input}
@@ -35,7 +37,7 @@ ending_of (Err e) = ending_of_local e
 
 -- The log grew by a run of the stage, which ended so: the own steps are a run's, and the files are those at first with
 -- what was put.
-pub record Runs (s : meaning.Stage) (old new : Log) (ending : Ending) : Type 0 where
+pub record Runs (s : Stage) (old new : Log) (ending : Ending) : Type 0 where
   pub acts : List Act
   pub did : Did old new acts
   pub files : after_all (files_of old) acts ≡ put_all (files_of old) (puts_of (moments_from (files_of old) acts))
@@ -118,42 +120,42 @@ PutSoFar outputs n old now = Did old now (puts_all (files_put (take n outputs)))
 
 -- ---- a task
 -- it does not refuse, all its inputs were read, and some first ones of its files were put
-pub record PutsOfTask (s : meaning.Stage) (k : ℕ) (old new : Log) (outputs : List File) (number : ℕ) : Type 0 where
-  pub fine : meaning.task_refusal s k (file_at (files_of old)) ≡ None
-  pub made : meaning.task_files s k (file_at (files_of old)) ≡ Some outputs
-  pub did : Did old new (reads_all (meaning.inputs_of s k) ++ puts_all (take number outputs))
+pub record PutsOfTask (s : Stage) (k : ℕ) (old new : Log) (outputs : List File) (number : ℕ) : Type 0 where
+  pub fine : task_refusal s k (file_at (files_of old)) ≡ None
+  pub made : task_files s k (file_at (files_of old)) ≡ Some outputs
+  pub did : Did old new (reads_all (inputs_of s k) ++ puts_all (take number outputs))
 
-pub record TaskDone (s : meaning.Stage) (k : ℕ) (old new : Log) : Type 0 where
+pub record TaskDone (s : Stage) (k : ℕ) (old new : Log) : Type 0 where
   pub outputs : List File
   pub puts : PutsOfTask s k old new outputs (length outputs)
 
 -- a task that stopped while it read, or while it put
-pub data TaskStopped (s : meaning.Stage) (k : ℕ) (old new : Log) : Type 0 where
-  while_reading : ReadsFewer (meaning.inputs_of s k) old new → TaskStopped s k old new
+pub data TaskStopped (s : Stage) (k : ℕ) (old new : Log) : Type 0 where
+  while_reading : ReadsFewer (inputs_of s k) old new → TaskStopped s k old new
   while_putting : (outputs : List File) (number : ℕ) → PutsOfTask s k old new outputs number → TaskStopped s k old new
 
 -- or stopped once it had read
-pub data TaskHalted (s : meaning.Stage) (k : ℕ) (old new : Log) : Type 0 where
-  in_reading : ReadsSome (meaning.inputs_of s k) old new → TaskHalted s k old new
+pub data TaskHalted (s : Stage) (k : ℕ) (old new : Log) : Type 0 where
+  in_reading : ReadsSome (inputs_of s k) old new → TaskHalted s k old new
   in_putting : (outputs : List File) (number : ℕ) → PutsOfTask s k old new outputs number → TaskHalted s k old new
 
-abbrev pub FailsTask : meaning.Stage → ℕ → Log → Log → Ending → Type 0
-FailsTask s k old new (Refuses r) = Did old new (reads_all (meaning.inputs_of s k)) × (meaning.task_refusal s k (file_at (files_of old)) ≡ Some r)
+abbrev pub FailsTask : Stage → ℕ → Log → Log → Ending → Type 0
+FailsTask s k old new (Refuses r) = Did old new (reads_all (inputs_of s k)) × (task_refusal s k (file_at (files_of old)) ≡ Some r)
 FailsTask s k old new StoreFailed = TaskStopped s k old new
 FailsTask s k old new NoMemory = TaskHalted s k old new
 FailsTask s k old new Finished = ⊥
 
-abbrev pub RunsTask : meaning.Stage → ℕ → Log → Log → Result (Unit {0}) LocalError → Type 0
+abbrev pub RunsTask : Stage → ℕ → Log → Log → Result (Unit {0}) LocalError → Type 0
 RunsTask s k old new (Ok done) = TaskDone s k old new
 RunsTask s k old new (Err e) = FailsTask s k old new (ending_of_local e)
 
 -- ---- the first n tasks were run
-pub record RunsSome (s : meaning.Stage) (old new : Log) (n : ℕ) : Type 0 where
+pub record RunsSome (s : Stage) (old new : Log) (n : ℕ) : Type 0 where
   pub acts : List Act
   pub did : Did old new acts
   pub files : after_all (files_of old) acts ≡ put_all (files_of old) (puts_of (moments_from (files_of old) acts))
-  pub now : (meaning.run_tasks s (put_all (files_of old) (meaning.info_files s.info)) n).files ≡ Some (files_of new)
-  pub puts : puts_of (moments_from (files_of old) acts) ≡ meaning.info_files s.info ++ (meaning.run_tasks s (put_all (files_of old) (meaning.info_files s.info)) n).puts
-  pub reads : reads_of (moments_from (files_of old) acts) ≡ meaning.flattened (listed (meaning.inputs_of s) n)
-  pub fault : (rest : List Find) → fault_of_tasks s (meaning.task_count s) 0 (finds_of (moments_from (files_of old) acts) ++ rest)
-      ≡ fault_of_tasks s (meaning.task_count s - n) n rest
+  pub now : (run_tasks s (put_all (files_of old) (info_files s.info)) n).files ≡ Some (files_of new)
+  pub puts : puts_of (moments_from (files_of old) acts) ≡ info_files s.info ++ (run_tasks s (put_all (files_of old) (info_files s.info)) n).puts
+  pub reads : reads_of (moments_from (files_of old) acts) ≡ flattened (listed (inputs_of s) n)
+  pub fault : (rest : List Find) → fault_of_tasks s (task_count s) 0 (finds_of (moments_from (files_of old) acts) ++ rest)
+      ≡ fault_of_tasks s (task_count s - n) n rest

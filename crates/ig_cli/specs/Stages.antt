@@ -1,35 +1,30 @@
 -- A planned copy as a stage, and what a run of it stands on.
 use Rattle.std.specs.Prelude.{◌≡◌, ◌≢◌, ◌≤◌, true, [], ◌∷◌, length, None, Some}
 use Rattle.ig_space.specs.declared.point.Box3.{Box3}
-use Rattle.ig_space.specs.declared.geometry.Encoding.TheVariants.{Raw}
 use Rattle.ig_space.specs.Chunk.{chunk_path}
 use Rattle.ig_space.specs.Geometry.{geometry_fits}
 use Rattle.ig_space.specs.Grid.{IsBox}
-use Rattle.ig_defs.specs.Own.{File}
-use Rattle.ig_meaning.specs.Stage as meaning
+use Rattle.ig_record.specs.declared.stage.Stage as meaning
+use Rattle.ig_record.specs.declared.stage.Kind.TheVariants.{Xfer}
+use Rattle.ig_meaning.specs.Stage.{unfit}
 use Rattle.ig_cli.specs.declared.stage.Stage.{Stage}
-use Rattle.ig_cli.specs.declared.stage.InfoFile.{InfoFile}
-
-abbrev pub shown_info : InfoFile → File
-shown_info info = record { path = info.path; bytes = info.text }
 
 -- the stage of a planned copy
 abbrev pub shown : Stage → meaning.Stage
 shown s = record {
-  kind = meaning.Xfer;
+  kind = Xfer;
   source = s.source;
   dests = s.dest ∷ [];
+  scratch = None;
   shape = s.shape;
-  info = Some (shown_info s.info);
+  info = Some s.info;
 }
 
--- The same voxels of a raw scale in another directory; the info is no chunk of the source. Whether its shape fits is not
+-- The same voxels of a scale in another directory; the info is no chunk of the source. Whether its shape fits is not
 -- known yet.
 pub record IsDraft (s : Stage) : Type 0 where
   pub source_fits : geometry_fits s.source.geometry ≡ true
   pub dest_fits : geometry_fits s.dest.geometry ≡ true
-  pub source_raw : s.source.geometry.encoding ≡ Raw
-  pub dest_raw : s.dest.geometry.encoding ≡ Raw
   pub offset : s.dest.geometry.offset ≡ s.source.geometry.offset
   pub size : s.dest.geometry.size ≡ s.source.geometry.size
   pub width : s.dest.geometry.width ≡ s.source.geometry.width
@@ -44,4 +39,4 @@ pub record IsDraft (s : Stage) : Type 0 where
 -- and it fits
 pub record CanRun (s : Stage) : Type 0 where
   pub draft : IsDraft s
-  pub fit : meaning.unfit (shown s) ≡ None
+  pub fit : unfit (shown s) ≡ None

@@ -3,7 +3,8 @@ use Rattle.std.specs.Prelude.{◌≡◌, ℕ, if◌then◌else◌, List, [], ◌
 use Rattle.ig_defs.specs.Own.{File}
 use Rattle.ig_meaning.specs.Refusal as meaning
 use Rattle.ig_meaning.specs.Refusal.{Refusal}
-use Rattle.ig_meaning.specs.Stage.{Stage, task_files, task_refusal}
+use Rattle.ig_record.specs.declared.stage.Stage.{Stage}
+use Rattle.ig_meaning.specs.Stage.{task_files, task_refusal}
 use Rattle.ig_cutout.specs.declared.types.Input.{Input}
 use Rattle.ig_cutout.specs.declared.types.Output.{Output}
 use Rattle.ig_cutout.specs.declared.error.CutError.{CutError}

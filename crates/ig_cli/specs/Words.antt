@@ -1,8 +1,10 @@
 -- What the words of the command line ask for.
-use Rattle.std.specs.Prelude.{◌≡◌, ◌≢◌, ◌≤◌, ℕ, true, List, Option, None, Some, IfSome, String, length, map, string_bytes}
+use Rattle.std.specs.Prelude.{◌≡◌, ◌≢◌, ◌≤◌, ℕ, true, List, Option, None, Some, IfSome, String, length, map, option_map, string_bytes}
 use Rattle.std.specs.declared.alloc.Global.{Global}
 use Rattle.ig_space.specs.Path.{is_path}
-use Rattle.ig_meaning.specs.Words.{Copy, Request, command_of}
+use Rattle.ig_meaning.specs.Words.{Coding, Compressed, Copy, Plain, Request, command_of}
+use Rattle.ig_cli.specs.declared.words.Coding as word
+use Rattle.ig_cli.specs.declared.words.Coding.TheVariants.{Raw, Cseg}
 use Rattle.ig_cli.specs.declared.words.Request as reading
 use Rattle.ig_cli.specs.declared.words.Sizes.{Sizes}
 use Rattle.ig_cli.specs.Options.{HasSides}
@@ -11,13 +13,18 @@ use Rattle.ig_cli.specs.Options.{HasSides}
 abbrev pub texts_of : List (String Global) → List (List ℕ)
 texts_of words = map string_bytes words
 
+-- the encoding that this is
+abbrev pub shown_coding : word.Coding → Coding
+shown_coding Raw = Plain
+shown_coding Cseg = Compressed
+
 -- the request that this is
 abbrev pub shown_request : reading.Request → Request
-shown_request request = record { source = request.source; dest = request.dest; mip = request.mip; chunk = request.chunk; shape = request.shape }
+shown_request request = record { source = request.source; dest = request.dest; mip = request.mip; chunk = request.chunk; shape = request.shape; encoding = option_map shown_coding request.encoding; block = request.block }
 
 -- the request for the copy of one layer into another
 abbrev pub request_with : List ℕ → List ℕ → Sizes → Request
-request_with source dest sizes = record { source = source; dest = dest; mip = sizes.mip; chunk = sizes.chunk; shape = sizes.shape }
+request_with source dest sizes = record { source = source; dest = dest; mip = sizes.mip; chunk = sizes.chunk; shape = sizes.shape; encoding = option_map shown_coding sizes.encoding; block = sizes.block }
 
 -- the number of the scale has at most two digits, and each side that is given is within its limits
 pub record HasSizes (sizes : Sizes) : Type 0 where

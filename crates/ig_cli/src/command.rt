@@ -72,8 +72,8 @@ fn perform<S: Store<Pipeline>>(
 
 /// Runs the command of these words, those after the program's name, over a store, and prints what it has to say on
 /// `out` and `err`. Gives the exit status: 0 where all was done, 2 where the words are no command's, 5 where a file is
-/// missing or malformed or the new layer isn't empty, 6 at a fault of the store, 7 where memory ran out, 9 at a fault of
-/// the output.
+/// missing or malformed, the new layer isn't empty, or the scale or the shape isn't lawful, 6 at a fault of the store, 7
+/// where memory ran out, 9 at a fault of the output.
 pub fn igneous<R: Threads + Sync, S: Store<Pipeline>, C: Clock, O: Sink, E: Sink>(
     rt: &R,
     alloc: Global,

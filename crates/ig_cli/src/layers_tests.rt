@@ -7,10 +7,10 @@ use std::test::Fail as Failed;
 use std::thread::Threads;
 
 /// A file: its path and its bytes.
-type File<'a> = (&'a str, &'a [u8]);
+pub(crate) type File<'a> = (&'a str, &'a [u8]);
 
 /// Five voxels in chunks of two, with the labels 1 to 5.
-const INFO: &str =
+pub(crate) const INFO: &str =
     r#"{"data_type":"uint16","num_channels":1,"scales":[{"chunk_sizes":[[2,1,1]],"encoding":"raw","key":"8_8_8","resolution":[8,8,8],"size":[5,1,1],"voxel_offset":[0,0,0]}],"type":"segmentation"}"#;
 
 /// The info of its copy in chunks of two.
@@ -66,7 +66,7 @@ fn files_of(alloc: Global, given: &[File]) -> Result<FileMap, Failed> {
 /// How many files the new layer has.
 fn count_of_copy(alloc: Global, files: &FileMap) -> Result<usize, Failed> {
     let mut count = 0usize;
-    for dir in ["copy", "copy/8_8_8", "copy/16_16_8"] {
+    for dir in ["copy", "copy/8_8_8", "copy/16_16_8", "copy/8_8_40"] {
         let dir = Path::new(alloc, dir)?.ok_or("not a path")?;
         count = count.saturating_add(files.names(&dir)?.len());
     }
@@ -75,7 +75,7 @@ fn count_of_copy(alloc: Global, files: &FileMap) -> Result<usize, Failed> {
 
 /// Copies the layer of these files with these options. Asserts the status and what is printed on both outputs, and that
 /// the new layer has the wanted files, and no others.
-fn copies<R: Threads + Sync + Abort>(
+pub(crate) fn copies<R: Threads + Sync + Abort>(
     rt: &R,
     alloc: Global,
     given: &[File],

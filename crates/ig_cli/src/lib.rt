@@ -6,6 +6,8 @@
 mod calls;
 mod command;
 #[cfg(test)]
+mod encodings_tests;
+#[cfg(test)]
 mod layers_tests;
 mod lines;
 mod making;

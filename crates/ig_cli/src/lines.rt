@@ -1,8 +1,9 @@
 //! The lines that a command prints, each with its line end.
 ghost use Rattle.std.specs.Prelude.{◌≡◌, IfOk, codes, string_bytes};
+ghost use Rattle.std.specs.Fmt.{decimal};
 ghost use Rattle.ig_layer.specs.Faults as layer;
 ghost use Rattle.ig_meaning.specs.Refusal as refusal;
-ghost use Rattle.ig_meaning.specs.Stage.{Xfer};
+ghost use Rattle.ig_record.specs.declared.stage.Kind.TheVariants.{Xfer};
 ghost use Rattle.ig_meaning.specs.Ending.{Refuses};
 ghost use Rattle.ig_meaning.specs.Lines.{axis_text, fault_line, refusal_text, spaced, ran_line as line_of_ran};
 ghost use Rattle.ig_cli.specs.Making.{ending_of_make};
@@ -13,6 +14,7 @@ ghost use Rattle.ig_cli.specs.Report.{shown_line, status_of, Ends, Tells};
 use crate::making::MakeError;
 use crate::running::LocalError;
 use crate::task::RunError;
+use ig_cseg::CsegFault;
 use ig_cutout::Cause;
 use ig_info::InfoError;
 use std::alloc::{AllocError, Global};
@@ -126,6 +128,31 @@ fn wrong_length(alloc: Global, path: &str, got: u64, want: u64) -> Result<String
     format!(in alloc; "igneous: malformed {path} wrong length {got} want {want}\n")
 }
 
+/// The line of a malformed file with this cause at the block with this number.
+fn malformed_block(alloc: Global, path: &str, cause: &str, block: u64) -> Result<String, AllocError>
+    ensures { IfOk result (λ line. string_bytes line ≡ fault_line (spaced (codes "malformed") (spaced path.now (spaced cause.now (decimal block))))) }
+{
+    format!(in alloc; "igneous: malformed {path} {cause} {block}\n")
+}
+
+/// The line of a compressed chunk with this fault.
+fn bad_cseg(alloc: Global, path: &str, fault: &CsegFault) -> Result<String, AllocError>
+    ensures { IfOk result (λ line. string_bytes line ≡ fault_line (refusal_text (refusal.Malformed path.now (layer.BadCseg fault.now)))) }
+{
+    match fault {
+        CsegFault::NotWords => malformed(alloc, path, "not words"),
+        CsegFault::NoChannel => malformed(alloc, path, "no channel"),
+        CsegFault::HeaderShort => malformed(alloc, path, "header short"),
+        CsegFault::BadBits { block } => malformed_block(alloc, path, "bad bits in block", *block),
+        CsegFault::ValuesOutside { block } => {
+            malformed_block(alloc, path, "values outside in block", *block)
+        }
+        CsegFault::TableOutside { block } => {
+            malformed_block(alloc, path, "table outside in block", *block)
+        }
+    }
+}
+
 fn bad_info(alloc: Global, path: &str, cause: &InfoError) -> Result<String, AllocError>
     ensures { IfOk result (λ line. string_bytes line ≡ fault_line (refusal_text (refusal.BadInfo path.now cause.now))) }
 {
@@ -144,6 +171,7 @@ fn bad_file(alloc: Global, path: &str, cause: &Cause) -> Result<String, AllocErr
 {
     match cause {
         Cause::Length { got, want } => wrong_length(alloc, path, *got, *want),
+        Cause::Cseg(fault) => bad_cseg(alloc, path, fault),
     }
 }
 
@@ -210,6 +238,42 @@ mod tests {
     fn tells_what_ran(rt: HostRuntime) {
         let line = ran_line(rt.alloc(), 12).expect(&rt, "memory");
         assert_eq!(rt; line.as_str(), "ran xfer tasks 12\n");
+    }
+
+    #[test]
+    fn tells_what_is_wrong_with_a_compressed_chunk(rt: HostRuntime) {
+        for (fault, told) in [
+            (
+                CsegFault::NotWords,
+                "igneous: malformed out/info not words\n",
+            ),
+            (
+                CsegFault::NoChannel,
+                "igneous: malformed out/info no channel\n",
+            ),
+            (
+                CsegFault::HeaderShort,
+                "igneous: malformed out/info header short\n",
+            ),
+            (
+                CsegFault::BadBits { block: 7 },
+                "igneous: malformed out/info bad bits in block 7\n",
+            ),
+            (
+                CsegFault::ValuesOutside { block: 0 },
+                "igneous: malformed out/info values outside in block 0\n",
+            ),
+            (
+                CsegFault::TableOutside { block: 12 },
+                "igneous: malformed out/info table outside in block 12\n",
+            ),
+        ] {
+            let path = info_path(rt.alloc(), &rt);
+            let cause = Cause::Cseg(fault);
+            let e = LocalError::Run(RunError::Malformed { path, cause });
+            let line = line_of_local(rt.alloc(), &e);
+            assert_eq!(rt; line.as_bytes(), told.as_bytes());
+        }
     }
 
     #[test]

@@ -1,24 +1,25 @@
 //! Plans a copy from the info of its source, and judges whether it can be run. Nothing is read or put here.
-ghost use Rattle.std.specs.Prelude.{◌≡◌, ◌^◌, ◌≤◌, ◌+◌, ◌<◌, ℕ, Ok, Some, None, length, slice_get, true, codes, unwrap_or, IfOk, IfErr, IfSome, OnOk};
-ghost use Rattle.std.specs.List.{list_all};
+ghost use Rattle.std.specs.Prelude.{◌≡◌, ◌^◌, ◌≤◌, ◌+◌, ◌<◌, ℕ, Ok, Some, None, length, slice_get, true, codes, option_map, unwrap_or, IfOk, IfErr, IfSome, OnOk};
 ghost use Rattle.ig_space.specs.Path.{is_path, joined};
 ghost use Rattle.serde_json.specs.Written.{compact_text};
 ghost use Rattle.ig_info.specs.Dest.{dest_of};
-ghost use Rattle.ig_info.specs.Reading.{can_be_read, info_in};
+ghost use Rattle.ig_info.specs.Reading.{info_in};
 ghost use Rattle.ig_info.specs.Scale.{scale_fits};
 ghost use Rattle.ig_info.specs.Info.{InfoData};
-ghost use Rattle.ig_meaning.specs.Stage.{most_tasks, most_voxels, task_count, unfit, unfit_axis as unfit_axis_of};
-ghost use Rattle.ig_meaning.specs.Plan.{info_path, new_scale as new_scale_of, place_in, planned, twice as twice_of, with_dest};
+ghost use Rattle.ig_record.specs.Stage.{most_tasks, most_voxels, task_count, unfit_axis as unfit_axis_of};
+ghost use Rattle.ig_meaning.specs.Stage.{unfit};
+ghost use Rattle.ig_meaning.specs.Plan.{info_path, new_encoding as new_encoding_of, new_scale as new_scale_of, place_in, planned, twice as twice_of, with_dest};
 ghost use Rattle.ig_cli.specs.Making.{ending_of_make, info_error_of, Explains, JudgesFit};
 ghost use Rattle.ig_cli.specs.Stages.{shown, IsDraft};
 ghost use Rattle.ig_cli.specs.Options.{HasSides};
-ghost use Rattle.ig_cli.specs.Words.{shown_request, HasLimits};
+ghost use Rattle.ig_cli.specs.Words.{shown_coding, shown_request, HasLimits};
 
 use crate::making::MakeError;
-use crate::stage::{InfoFile, Stage};
-use crate::words::Request;
+use crate::stage::Stage;
+use crate::words::{Coding, Request};
 use ig_info::{Info, InfoError, Scale, dest_info, read_info, write_info};
-use ig_space::{Bytes, Geometry, Path, Place, Point, TryClone};
+use ig_record::InfoFile;
+use ig_space::{Bytes, Encoding, Geometry, Path, Place, Point, TryClone};
 use std::alloc::{AllocError, Global};
 
 /// The most tasks that a stage has.
@@ -61,12 +62,28 @@ pub fn info_file(alloc: Global, layer: &Path) -> Result<Path, AllocError>
 fn source_info(alloc: Global, request: &Request, bytes: &Bytes) -> Result<Info, MakeError>
     requires { length request.now.source ≤ 100 }
     ensures info { IfOk result (λ info. info_in bytes.now ≡ Ok info) }
-    ensures readable { IfOk result (λ info. list_all can_be_read info.scales ≡ true) }
     ensures refused { IfErr result (λ e. Explains (ending_of_make e) (planned (shown_request request.now) bytes.now)) }
 {
     match read_info(alloc, bytes.as_bytes()) {
         Ok(info) => Ok(info),
         Err(cause) => Err(info_error(info_file(alloc, &request.source)?, cause)),
+    }
+}
+
+/// How the new chunks are written: as is asked for, and else as those of the source. The sides of a block are those that are
+/// asked for, and else those of the source; 8 where it has none.
+fn new_encoding(asked: Option<Coding>, block: Option<Point>, source: Encoding) -> Encoding
+    ensures { result ≡ new_encoding_of (option_map shown_coding asked) block source }
+{
+    let (own, own_block) = match source {
+        Encoding::Raw => (Coding::Raw, Point { x: 8, y: 8, z: 8 }),
+        Encoding::Cseg { block } => (Coding::Cseg, block),
+    };
+    match asked.unwrap_or(own) {
+        Coding::Raw => Encoding::Raw,
+        Coding::Cseg => Encoding::Cseg {
+            block: block.unwrap_or(own_block),
+        },
     }
 }
 
@@ -76,6 +93,7 @@ fn new_scale(request: &Request, scale: &Scale) -> Result<Scale, AllocError>
 {
     let geometry = Geometry {
         chunk: request.chunk.unwrap_or(scale.geometry.chunk),
+        encoding: new_encoding(request.encoding, request.block, scale.geometry.encoding),
         ..scale.geometry
     };
     Ok(Scale {
@@ -152,7 +170,6 @@ fn box_size(asked: Option<Point>, chunk: Point) -> Point
 fn plan_scale(alloc: Global, request: &Request, scale: &Scale) -> Result<Stage, MakeError>
     requires limits { HasLimits request.now }
     requires fits { scale_fits scale.now ≡ true }
-    requires readable { can_be_read scale.now ≡ true }
     ensures planned { IfOk result (λ stage. with_dest (shown_request request.now) scale.now (new_scale_of (shown_request request.now) scale.now) (dest_of (new_scale_of (shown_request request.now) scale.now)) ≡ Ok (shown stage)) }
     ensures draft { IfOk result IsDraft }
     ensures refused { IfErr result (λ e. Explains (ending_of_make e) (with_dest (shown_request request.now) scale.now (new_scale_of (shown_request request.now) scale.now) (dest_of (new_scale_of (shown_request request.now) scale.now)))) }
@@ -220,4 +237,56 @@ pub fn check_fit(stage: &Stage) -> Result<(), MakeError>
         return Err(MakeError::TaskTooLarge { voxels });
     }
     Ok(())
+}
+
+#[cfg(test)]
+mod tests {
+    use super::*;
+    use std::process::Abort;
+
+    fn point(x: u64, y: u64, z: u64) -> Point {
+        Point { x, y, z }
+    }
+
+    fn compressed(block: Point) -> Encoding {
+        Encoding::Cseg { block }
+    }
+
+    /// Asserts how the chunks of copies of this source are written: as they are, raw, and compressed.
+    fn writes(
+        rt: &impl Abort,
+        source: Encoding,
+        block: Option<Point>,
+        same: Encoding,
+        asked: Encoding,
+    ) {
+        assert_eq!(rt; new_encoding(None, block, source), same);
+        assert_eq!(rt;
+            new_encoding(Some(Coding::Raw), block, source),
+            Encoding::Raw
+        );
+        assert_eq!(rt; new_encoding(Some(Coding::Cseg), block, source), asked);
+    }
+
+    #[test]
+    fn new_chunks_are_written_as_asked(rt: HostRuntime) {
+        let (own, given) = (point(4, 2, 1), point(16, 16, 8));
+        let usual = compressed(point(8, 8, 8));
+        writes(&rt, Encoding::Raw, None, Encoding::Raw, usual);
+        writes(
+            &rt,
+            Encoding::Raw,
+            Some(given),
+            Encoding::Raw,
+            compressed(given),
+        );
+        writes(&rt, compressed(own), None, compressed(own), compressed(own));
+        writes(
+            &rt,
+            compressed(own),
+            Some(given),
+            compressed(given),
+            compressed(given),
+        );
+    }
 }

@@ -1,7 +1,7 @@
 //! Prints what a command that ended has to say, and gives its status.
 ghost use Rattle.std.specs.Prelude.{◌≡◌, ◌≤◌, ◌⊎◌};
 ghost use Rattle.ig_defs.specs.Causes.{Rose};
-ghost use Rattle.ig_meaning.specs.Stage.{Xfer};
+ghost use Rattle.ig_record.specs.declared.stage.Kind.TheVariants.{Xfer};
 ghost use Rattle.ig_meaning.specs.Ending.{Finished};
 ghost use Rattle.ig_meaning.specs.Lines.{ran_line as line_of_ran};
 ghost use Rattle.ig_cli.specs.Report.{ended_of, ended_of_error, err_line, out_line, shown_line, status_of, Ends, HasTaken, HasTold, IsStatusOf, Tells};

@@ -1,6 +1,6 @@
 //! Runs a copy that is planned: puts its info, and then, task by task, reads the inputs and puts the outputs.
 ghost use Rattle.std.specs.Prelude.{◌≡◌, ◌<◌, [], ◌∷◌, IfOk};
-ghost use Rattle.ig_meaning.specs.Stage.{inputs_of, task_count};
+ghost use Rattle.ig_record.specs.Stage.{inputs_of, task_count};
 ghost use Rattle.ig_cutout.specs.Inputs.{paths_of};
 ghost use Rattle.ig_cli.specs.Pipeline.{local_rule};
 ghost use Rattle.ig_cli.specs.Making.{make_error_of, HasCauseFor};

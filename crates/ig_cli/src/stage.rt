@@ -2,17 +2,11 @@
 ghost use Rattle.std.specs.Prelude.{◌≡◌, ◌≤◌, ◌<◌};
 ghost use Rattle.ig_space.specs.Geometry.{count};
 ghost use Rattle.ig_space.specs.Grid.{IsBox, IsGrid, IsWithin, size_of, space_of};
-ghost use Rattle.ig_meaning.specs.Stage.{greatest, hull_voxels, most_tasks, task_box, task_count, task_grid};
+ghost use Rattle.ig_record.specs.Stage.{greatest, hull_voxels, most_tasks, task_box, task_count, task_grid};
 ghost use Rattle.ig_cli.specs.Stages.{shown, IsDraft};
 
-use ig_space::{Box3, Bytes, Grid, Path, Place, Point};
-
-/// An info file that is to be put.
-#[derive(Debug, Drop)]
-pub struct InfoFile {
-    pub path: Path,
-    pub text: Bytes,
-}
+use ig_record::InfoFile;
+use ig_space::{Box3, Grid, Place, Point};
 
 /// A copy that is planned: the scale that it reads, the one that it writes, the size of a task's box in voxels, and the
 /// info of the new layer.

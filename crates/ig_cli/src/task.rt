@@ -1,7 +1,8 @@
 //! What a task makes of what was found of its inputs. Nothing is read or put here.
 ghost use Rattle.std.specs.Prelude.{◌≡◌, ◌<◌, IfOk, IfErr, option_map};
 ghost use Rattle.ig_layer.specs.Layer.{Reading};
-ghost use Rattle.ig_meaning.specs.Stage.{inputs_of, task_count, task_refusal};
+ghost use Rattle.ig_record.specs.Stage.{inputs_of, task_count};
+ghost use Rattle.ig_meaning.specs.Stage.{task_refusal};
 ghost use Rattle.ig_cutout.specs.Inputs.{HoldsAll, paths_of};
 ghost use Rattle.ig_cli.specs.Stages.{shown, CanRun};
 ghost use Rattle.ig_cli.specs.Tasks.{missing_path, run_error_of, MakesFiles, RefusesTask};

@@ -156,7 +156,9 @@ fn other_words_are_no_command(rt: HostRuntime) -> Result<(), Failed> {
         "image xfer seg a/-b",
         "image xfer seg copy --mip",
         "image xfer seg copy --shape 0,1,1",
-        "image xfer seg copy --encoding raw",
+        "image xfer seg copy --encoding png",
+        "image xfer seg copy --encoding raw --encoding raw",
+        "image xfer seg copy --block-size 0,1,1",
         long.as_str(),
     ] {
         let files = layer(alloc, INFO, &SEVEN)?;

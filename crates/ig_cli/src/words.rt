@@ -1,16 +1,24 @@
-//! The words of a command: `image xfer SRC DEST [--mip N] [--chunk-size X,Y,Z] [--shape X,Y,Z]`.
+//! The words of a command: `image xfer SRC DEST [--mip N] [--chunk-size X,Y,Z] [--shape X,Y,Z]
+//! [--encoding E] [--block-size X,Y,Z]`.
 ghost use Rattle.std.specs.Prelude.{◌≡◌, ◌≤◌, IfOk, IfSome, List, ℕ, codes, map, option_map, true};
 ghost use Rattle.std.specs.List.{list_all};
 ghost use Rattle.ig_space.specs.Path.{is_path};
 ghost use Rattle.ig_meaning.specs.Options.{number_in, value_or, values_of};
-ghost use Rattle.ig_meaning.specs.Words.{are_layers, copy_between, is_copy_option, is_layer, request_of, sides_given};
+ghost use Rattle.ig_meaning.specs.Words.{are_layers, coding_given, coding_of, copy_between, is_copy_option, is_layer, request_of, sides_given};
 ghost use Rattle.ig_cli.specs.Options.{HasSides, both};
 ghost use Rattle.ig_cli.specs.Parts.{shown};
-ghost use Rattle.ig_cli.specs.Words.{HasLimits, HasSizes, Reads, request_with, shown_request, texts_of};
+ghost use Rattle.ig_cli.specs.Words.{HasLimits, HasSizes, Reads, request_with, shown_coding, shown_request, texts_of};
 
 use crate::options::{Parts, number_in, parts_of, sides_of, value_of};
 use ig_space::{Path, Point, is_path_text};
 use std::alloc::{AllocError, Global};
+
+/// How the chunks of a new layer are to be written.
+#[derive(Clone, Copy, Debug, PartialEq, Eq)]
+pub enum Coding {
+    Raw,
+    Cseg,
+}
 
 /// What a command is asked to do: to copy a scale of a layer into a new layer.
 #[derive(Debug, Drop)]
@@ -23,6 +31,10 @@ pub struct Request {
     pub chunk: Option<Point>,
     /// The size of a task's box in voxels, where it is given.
     pub shape: Option<Point>,
+    /// How the new chunks are written, where it is given.
+    pub encoding: Option<Coding>,
+    /// The size of the new chunks' blocks in voxels, where it is given.
+    pub block: Option<Point>,
 }
 
 /// What the options of a copy give.
@@ -31,6 +43,8 @@ struct Sizes {
     mip: u32,
     chunk: Option<Point>,
     shape: Option<Point>,
+    encoding: Option<Coding>,
+    block: Option<Point>,
 }
 
 /// The most bytes of a layer's path.
@@ -66,7 +80,11 @@ fn path_of(alloc: Global, word: &str) -> Result<Path, AllocError>
 fn is_copy_option(name: &str) -> bool
     ensures { result ≡ is_copy_option name.now }
 {
-    name == "--mip" || name == "--chunk-size" || name == "--shape"
+    name == "--mip"
+        || name == "--chunk-size"
+        || name == "--shape"
+        || name == "--encoding"
+        || name == "--block-size"
 }
 
 /// Whether a copy has options with these names.
@@ -98,6 +116,29 @@ fn sides_given(options: &[(&str, &str)], name: &str) -> Option<Option<Point>>
     }
 }
 
+/// The encoding that a word names.
+fn coding_of(text: &str) -> Option<Coding>
+    ensures { option_map shown_coding result ≡ coding_of text.now }
+{
+    if text == "raw" {
+        Some(Coding::Raw)
+    } else if text == "compressed_segmentation" {
+        Some(Coding::Cseg)
+    } else {
+        None
+    }
+}
+
+/// The encoding that an option gives, where it is given.
+fn coding_given(options: &[(&str, &str)]) -> Option<Option<Coding>>
+    ensures { option_map (option_map shown_coding) result ≡ coding_given (values_of (codes "--encoding") (map both options.now)) }
+{
+    match value_of(options, "--encoding")? {
+        Some(text) => Some(Some(coding_of(text)?)),
+        None => Some(None),
+    }
+}
+
 /// What these options give; `None` exactly where one of them is given twice or has a faulty value.
 #[tactic(auto, unfolding(ig_meaning::specs::Words::request_of))]
 fn sizes_of(options: &[(&str, &str)]) -> Option<Sizes>
@@ -109,6 +150,8 @@ fn sizes_of(options: &[(&str, &str)]) -> Option<Sizes>
         mip: mip_of(options)?,
         chunk: sides_given(options, "--chunk-size")?,
         shape: sides_given(options, "--shape")?,
+        encoding: coding_given(options)?,
+        block: sides_given(options, "--block-size")?,
     })
 }
 
@@ -133,6 +176,8 @@ fn copy_between(alloc: Global, parts: &Parts) -> Result<Option<Request>, AllocEr
         mip: sizes.mip,
         chunk: sizes.chunk,
         shape: sizes.shape,
+        encoding: sizes.encoding,
+        block: sizes.block,
     }))
 }
 

@@ -1,4 +1,4 @@
-use crate::words::read_words;
+use crate::words::{Coding, read_words};
 use ig_space::Point;
 use std::alloc::{AllocError, Global};
 use std::test::Fail;
@@ -38,8 +38,8 @@ fn other_words_are_no_command(rt: HostRuntime) -> Result<(), Fail> {
         "--mip 1 image xfer seg copy",
         "image --mip=1 xfer seg copy",
         "image xfer seg copy --queue=fq://q",
-        "image xfer seg copy --encoding raw",
-        "image xfer seg copy --block-size 8,8,8",
+        "image xfer seg copy --encodings raw",
+        "image xfer seg copy --block 8,8,8",
         "image xfer seg copy --help",
         "image xfer seg copy --help=1",
         "image xfer seg copy -h",
@@ -101,6 +101,19 @@ fn faulty_values_are_no_command(rt: HostRuntime) -> Result<(), Fail> {
         "--chunk-size 1,1",
         "--chunk-size 4,4,16777217",
         "--chunk-size 1,1,1 --shape 1,1,1 --chunk-size 1,1,1",
+        "--encoding",
+        "--encoding=",
+        "--encoding png",
+        "--encoding RAW",
+        "--encoding raw,raw",
+        "--encoding compressed",
+        "--encoding raw --encoding raw",
+        "--encoding raw --encoding=compressed_segmentation",
+        "--block-size",
+        "--block-size 8",
+        "--block-size 0,1,1",
+        "--block-size 1,1,16777217",
+        "--block-size 8,8,8 --block-size 8,8,8",
     ] {
         let text = format!(in rt.alloc(); "image xfer seg copy {options}")?;
         let words = words_of(rt.alloc(), text.as_str())?;
@@ -143,6 +156,35 @@ fn words_ask_for_copies(rt: HostRuntime) -> Result<(), Fail> {
         assert_eq!(rt; request.mip, mip, "at {text}");
         assert_eq!(rt; request.chunk, chunk, "at {text}");
         assert_eq!(rt; request.shape, shape, "at {text}");
+    }
+    Ok(())
+}
+
+#[test]
+fn words_ask_for_encodings(rt: HostRuntime) -> Result<(), Fail> {
+    let (raw, compressed) = (Some(Coding::Raw), Some(Coding::Cseg));
+    for (options, encoding, block) in [
+        ("", None, None),
+        ("--encoding raw", raw, None),
+        ("--encoding=compressed_segmentation", compressed, None),
+        ("--block-size 4,4,4", None, point(4, 4, 4)),
+        (
+            "--block-size=16777216,2,1 --encoding raw",
+            raw,
+            point(16777216, 2, 1),
+        ),
+        (
+            "--encoding compressed_segmentation --block-size 8,4,2",
+            compressed,
+            point(8, 4, 2),
+        ),
+    ] {
+        let line = format!(in rt.alloc(); "image xfer seg copy {options}")?;
+        let words = words_of(rt.alloc(), line.as_str())?;
+        let request = read_words(rt.alloc(), &words)?.ok_or("no command")?;
+        assert_eq!(rt; request.encoding, encoding, "at {options}");
+        assert_eq!(rt; request.block, block, "at {options}");
+        assert_eq!(rt; request.chunk, None, "at {options}");
     }
     Ok(())
 }

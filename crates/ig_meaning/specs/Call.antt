@@ -6,7 +6,9 @@ use Rattle.ig_defs.specs.Names.{Stands}
 use Rattle.ig_defs.specs.Own.{File, Moment, moments_since, put_all, puts_of, reads_of}
 use Rattle.ig_space.specs.declared.place.Place.{Place}
 use Rattle.ig_meaning.specs.Refusal.{Refusal}
-use Rattle.ig_meaning.specs.Stage.{Stage, info_files, planned_puts, planned_reads, sequential, unfit, wanted_files}
+use Rattle.ig_record.specs.declared.stage.Stage.{Stage}
+use Rattle.ig_record.specs.declared.stage.InfoFile.{InfoFile}
+use Rattle.ig_meaning.specs.Stage.{info_files, planned_puts, planned_reads, sequential, unfit, wanted_files}
 use Rattle.ig_meaning.specs.Plan.{stage_of}
 use Rattle.ig_meaning.specs.Fault.{Making, Refused, Unfinished, Planned, fault_of, making_of}
 use Rattle.ig_meaning.specs.Ending.{AreFirst}
@@ -40,7 +42,7 @@ AllEmpty files (dest ∷ dests) = ((name : List ℕ) → Stands files dest.dir n
 pub record IsReady (words : List (List ℕ)) (files : Files) : Type 0 where
   pub stage : Stage
   pub planned : stage_of words files ≡ Some stage
-  pub no_info : (info : File) → stage.info ≡ Some info → file_at files info.path ≡ None
+  pub no_info : (info : InfoFile) → stage.info ≡ Some info → file_at files info.path ≡ None
   pub no_names : AllEmpty files stage.dests
   pub fits : unfit stage ≡ None
   pub after : Files

@@ -1,23 +1,23 @@
 -- Copies that can be run.
 use Rattle.std.specs.Prelude.{◌≡◌, ◌≢◌, ◌≤◌, true, [], ◌∷◌, length, None, Some}
 use Rattle.ig_space.specs.declared.point.Box3.{Box3}
-use Rattle.ig_space.specs.declared.geometry.Encoding.TheVariants.{Raw}
 use Rattle.ig_space.specs.declared.place.Place.{Place}
 use Rattle.ig_space.specs.Chunk.{chunk_path}
 use Rattle.ig_space.specs.Geometry.{geometry_fits}
 use Rattle.ig_space.specs.Grid.{IsBox}
-use Rattle.ig_defs.specs.Own.{File}
-use Rattle.ig_meaning.specs.Stage.{Stage, unfit}
+use Rattle.ig_record.specs.declared.stage.Stage.{Stage}
+use Rattle.ig_record.specs.declared.stage.Kind.TheVariants.{Xfer}
+use Rattle.ig_record.specs.declared.stage.InfoFile.{InfoFile}
+use Rattle.ig_meaning.specs.Stage.{unfit}
 
--- The copy of a raw scale into another directory: the same voxels, in chunks of any size, and a shape that fits. Its info is
+-- The copy of a scale into another directory: the same voxels, in chunks of any size, and a shape that fits. Its info is
 -- no chunk of the source.
-pub record IsCopy (s : Stage) (dest : Place) (info : File) : Type 0 where
+pub record IsCopy (s : Stage) (dest : Place) (info : InfoFile) : Type 0 where
+  pub kind : s.kind ≡ Xfer
   pub dests : s.dests ≡ dest ∷ []
   pub has_info : s.info ≡ Some info
   pub source_fits : geometry_fits s.source.geometry ≡ true
   pub dest_fits : geometry_fits dest.geometry ≡ true
-  pub source_raw : s.source.geometry.encoding ≡ Raw
-  pub dest_raw : dest.geometry.encoding ≡ Raw
   pub offset : dest.geometry.offset ≡ s.source.geometry.offset
   pub size : dest.geometry.size ≡ s.source.geometry.size
   pub width : dest.geometry.width ≡ s.source.geometry.width

@@ -3,7 +3,8 @@ use Rattle.std.specs.Prelude.{◌≡◌, ℕ, List, ◌++◌, take, Option, None
 use Rattle.ig_defs.specs.Files.{Files, file_at}
 use Rattle.ig_defs.specs.Own.{File, Moment, put_all, puts_of, reads_of}
 use Rattle.ig_meaning.specs.Refusal.{Refusal}
-use Rattle.ig_meaning.specs.Stage.{Stage, info_files, planned_puts, planned_reads, sequential, wanted_files}
+use Rattle.ig_record.specs.declared.stage.Stage.{Stage}
+use Rattle.ig_meaning.specs.Stage.{info_files, planned_puts, planned_reads, sequential, wanted_files}
 use Rattle.ig_meaning.specs.Fault.{fault_of_run}
 
 pub data Ending : Type 0 where

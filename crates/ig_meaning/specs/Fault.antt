@@ -9,7 +9,10 @@ use Rattle.ig_defs.specs.Files.{Files, file_at}
 use Rattle.ig_defs.specs.Own.{File, Moment}
 use Rattle.ig_meaning.specs.Refusal.{Refusal, Missing, NotEmpty}
 use Rattle.ig_layer.specs.Faults.{or_else}
-use Rattle.ig_meaning.specs.Stage.{Stage, inputs_of, task_count, task_refusal, unfit}
+use Rattle.ig_record.specs.declared.stage.Stage.{Stage}
+use Rattle.ig_record.specs.declared.stage.InfoFile.{InfoFile}
+use Rattle.ig_record.specs.Stage.{inputs_of, task_count}
+use Rattle.ig_meaning.specs.Stage.{task_refusal, unfit}
 use Rattle.ig_meaning.specs.Plan.{info_path, planned}
 use Rattle.ig_meaning.specs.Words.{Command, Copy, Request, command_of}
 use Rattle.ig_space.specs.declared.place.Place.{Place}
@@ -112,7 +115,7 @@ making_of_found s path true ms = Refused (NotEmpty path)
 making_of_found s path false ms = making_of_dirs s s.dests ms
 
 -- the file of the new info, looked at by one own step
-abbrev pub making_of_info : Stage → Option File → List Moment → Making
+abbrev pub making_of_info : Stage → Option InfoFile → List Moment → Making
 making_of_info s None ms = making_of_dirs s s.dests ms
 making_of_info s (Some info) [] = Unfinished
 making_of_info s (Some info) (m ∷ ms) = where_it_looks (reads info.path m.act) (making_of_found s info.path (is_some (file_at m.files info.path)) ms)

@@ -3,9 +3,14 @@ use Rattle.std.specs.Prelude.{ℕ, zero, suc, List, [], ◌∷◌, ◌++◌, cod
 use Rattle.std.specs.Fmt.{decimal}
 use Rattle.ig_info.specs.declared.error.InfoError.{InfoError}
 use Rattle.ig_info.specs.declared.error.InfoError.TheVariants.{NotJson, Member, Unsupported, Memory}
-use Rattle.ig_layer.specs.Faults.{Cause, WrongLength}
+use Rattle.ig_cseg.specs.declared.fault.CsegFault.{CsegFault}
+use Rattle.ig_cseg.specs.declared.fault.CsegFault.TheVariants.{NotWords, NoChannel, HeaderShort, BadBits, ValuesOutside, TableOutside}
+use Rattle.ig_layer.specs.Faults.{Cause, BadCseg, WrongLength}
+use Rattle.ig_record.specs.Record.{kind_word}
 use Rattle.ig_meaning.specs.Refusal.{Refusal, Missing, BadInfo, NoScale, NotEmpty, ShapeUnfit, TooManyTasks, TaskTooLarge, Malformed}
-use Rattle.ig_meaning.specs.Stage.{Kind, Xfer, Stage, task_count}
+use Rattle.ig_record.specs.declared.stage.Stage.{Stage}
+use Rattle.ig_record.specs.declared.stage.Kind.{Kind}
+use Rattle.ig_record.specs.Stage.{task_count}
 
 -- the text and a line end
 abbrev pub line : List ℕ → List ℕ
@@ -14,9 +19,6 @@ line text = text ++ 10 ∷ []
 -- two texts with a blank between them
 abbrev pub spaced : List ℕ → List ℕ → List ℕ
 spaced left right = left ++ 32 ∷ right
-
-abbrev pub kind_word : Kind → List ℕ
-kind_word Xfer = codes "xfer"
 
 -- on standard output, once a stage has run: ran KIND tasks N
 abbrev pub ran_line : Kind → ℕ → List ℕ
@@ -31,7 +33,17 @@ info_cause (Member path) = spaced (codes "member") path
 info_cause (Unsupported member) = spaced (codes "unsupported") member
 info_cause Memory = codes "out of memory"
 
+-- what is wrong with a compressed chunk
+abbrev pub cseg_text : CsegFault → List ℕ
+cseg_text NotWords = codes "not words"
+cseg_text NoChannel = codes "no channel"
+cseg_text HeaderShort = codes "header short"
+cseg_text (BadBits block) = spaced (codes "bad bits in block") (decimal block)
+cseg_text (ValuesOutside block) = spaced (codes "values outside in block") (decimal block)
+cseg_text (TableOutside block) = spaced (codes "table outside in block") (decimal block)
+
 abbrev pub cause_text : Cause → List ℕ
+cause_text (BadCseg fault) = cseg_text fault
 cause_text (WrongLength got want) = spaced (codes "wrong length") (spaced (decimal got) (spaced (codes "want") (decimal want)))
 
 abbrev pub axis_text : ℕ → List ℕ

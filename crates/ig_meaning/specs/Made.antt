@@ -16,7 +16,9 @@ use Rattle.ig_defs.specs.Puts.{put_all-apart, put_all-append}
 use Rattle.ig_layer.specs.Layer.{volume_at}
 use Rattle.ig_layer.specs.SameVolume.{FindsSame, volume_at-same}
 use Rattle.ig_layer.specs.Texts.{files_in, layer_files}
-use Rattle.ig_meaning.specs.Stage.{Stage, appended, files_of_dests, files_of_layers, run_task, run_tasks, task_box, task_files, wanted_files, wanted_volume, with_task}
+use Rattle.ig_record.specs.declared.stage.Stage.{Stage}
+use Rattle.ig_record.specs.Stage.{task_box}
+use Rattle.ig_meaning.specs.Stage.{appended, files_of_dests, files_of_layers, run_task, run_tasks, task_files, wanted_files, wanted_volume, with_task}
 
 -- ---- a stage with one layer
 appended-nil : {A : Type 0} (o : Option (List A)) → appended o (Some []) ≡ o

@@ -2,6 +2,8 @@
 use Rattle.std.specs.Prelude.{◌*◌, ℕ, List, [], ◌∷◌, length, Option, None, Some, Result, Ok, Err, slice_get, unwrap_or, codes}
 use Rattle.std.specs.Result.{result_ok}
 use Rattle.ig_space.specs.declared.point.Point.{Point}
+use Rattle.ig_space.specs.declared.geometry.Encoding.{Encoding}
+use Rattle.ig_space.specs.declared.geometry.Encoding.TheVariants.{Raw, Cseg}
 use Rattle.ig_space.specs.declared.place.Place.{Place}
 use Rattle.ig_space.specs.Path.{joined}
 use Rattle.ig_info.specs.declared.error.InfoError.{InfoError}
@@ -12,8 +14,9 @@ use Rattle.ig_info.specs.Reading.{info_in}
 use Rattle.serde_json.specs.Written.{compact_text}
 use Rattle.ig_defs.specs.Files.{Files, file_at}
 use Rattle.ig_meaning.specs.Refusal.{Refusal, BadInfo, NoScale}
-use Rattle.ig_meaning.specs.Stage.{Stage, Xfer}
-use Rattle.ig_meaning.specs.Words.{Command, Copy, Request, command_of}
+use Rattle.ig_record.specs.declared.stage.Stage.{Stage}
+use Rattle.ig_record.specs.declared.stage.Kind.TheVariants.{Xfer}
+use Rattle.ig_meaning.specs.Words.{Coding, Plain, Compressed, Command, Copy, Request, command_of}
 
 -- the info file of a layer
 abbrev pub info_path : List ℕ → List ℕ
@@ -27,17 +30,33 @@ place_in layer scale = record { dir = joined layer scale.key; geometry = scale.g
 abbrev pub twice : Point → Point
 twice p = record { x = 2 * p.x; y = 2 * p.y; z = 2 * p.z }
 
--- the same scale in chunks of this size
-abbrev pub in_chunks : Point → Scale → Scale
-in_chunks chunk s = record {
+-- the same scale in chunks of this size, written so
+abbrev pub in_chunks : Point → Encoding → Scale → Scale
+in_chunks chunk encoding s = record {
   key = s.key;
   resolution = s.resolution;
-  geometry = record { offset = s.geometry.offset; size = s.geometry.size; chunk = chunk; width = s.geometry.width; encoding = s.geometry.encoding };
+  geometry = record { offset = s.geometry.offset; size = s.geometry.size; chunk = chunk; width = s.geometry.width; encoding = encoding };
 }
 
--- the scale of the new layer: that of the source, in the chunks that are asked for
+-- the blocks of the source, and where it has none, 8 on each axis
+abbrev pub blocks_of : Encoding → Point
+blocks_of Raw = record { x = 8; y = 8; z = 8 }
+blocks_of (Cseg block) = block
+
+-- compressed in the blocks that are asked for, and else in those of the source
+abbrev pub compressed : Option Point → Encoding → Encoding
+compressed block source = Cseg (unwrap_or block (blocks_of source))
+
+-- how the new chunks are written: as is asked for, and else as those of the source
+abbrev pub new_encoding : Option Coding → Option Point → Encoding → Encoding
+new_encoding (Some Plain) block source = Raw
+new_encoding (Some Compressed) block source = compressed block source
+new_encoding None block Raw = Raw
+new_encoding None block (Cseg own) = compressed block (Cseg own)
+
+-- the scale of the new layer: that of the source, in chunks of the size that is asked for, and written so
 abbrev pub new_scale : Request → Scale → Scale
-new_scale request s = in_chunks (unwrap_or request.chunk s.geometry.chunk) s
+new_scale request s = in_chunks (unwrap_or request.chunk s.geometry.chunk) (new_encoding request.encoding request.block s.geometry.encoding) s
 
 -- the copy of a scale into a new layer that has this scale and this info; a task's box is twice a new chunk on each axis
 -- where no shape is asked for
@@ -46,8 +65,9 @@ copy_stage request scale new info = record {
   kind = Xfer;
   source = place_in request.source scale;
   dests = place_in request.dest new ∷ [];
+  scratch = None;
   shape = unwrap_or request.shape (twice new.geometry.chunk);
-  info = Some (record { path = info_path request.dest; bytes = compact_text info.members });
+  info = Some (record { path = info_path request.dest; text = compact_text info.members });
 }
 
 abbrev pub with_dest : Request → Scale → Scale → Result InfoData InfoError → Result Stage Refusal

@@ -1,5 +1,5 @@
 -- A task of a copy that refuses leaves nothing to put: the chunk that is absent or damaged has a voxel in the task's box.
-use Rattle.std.specs.Prelude.{◌≡◌, ℕ, zero, suc, ◌==◌, ◌<◌, Bool, true, false, if◌then◌else◌, List, [], length, Option, None, Some, option_map}
+use Rattle.std.specs.Prelude.{◌≡◌, ℕ, zero, suc, ◌==◌, ◌<◌, Bool, true, false, if◌then◌else◌, List, [], length, Option, None, Some, is_none, option_map}
 use Rattle.std.proofs.Common.{arith, ap, sym, ◌∙◌, refl, ◌⊎◌, inl, inr}
 use Rattle.ig_space.specs.declared.point.Point.{Point}
 use Rattle.ig_space.specs.declared.point.Box3.{Box3}
@@ -14,12 +14,18 @@ use Rattle.ig_space.specs.Grid.{IsGrid, IsWithin, Meets, cell, cell_at, cell_cou
 use Rattle.ig_space.specs.Cells.{cell_at-is}
 use Rattle.ig_space.specs.Hulls.{hull-IsGrid, hull-cell_at, hull-holds}
 use Rattle.ig_space.specs.HullCells.{hull-meets}
-use Rattle.ig_defs.specs.Own.{File}
+use Rattle.ig_cseg.specs.declared.fault.CsegFault.{CsegFault}
+use Rattle.ig_cseg.specs.Cseg.{fault_of}
 use Rattle.ig_layer.specs.Layer.{is_text, label_in, raw_len, volume_at}
 use Rattle.ig_layer.specs.AllListed.{files_in-none}
-use Rattle.ig_layer.specs.Faults.{Cause, Fault, cause_in, fault_in, first_fault, first_of, or_else}
+use Rattle.ig_layer.specs.Faults.{Cause, BadCseg, Fault, cause_in, fault_in, first_fault, first_of, or_else}
 use Rattle.ig_meaning.specs.Refusal.{Refusal, refusal_of}
-use Rattle.ig_meaning.specs.Stage.{Kind, Xfer, Stage, absent_in, appended, files_of_dests, first_absent, input_box, input_count, input_path, task_box, task_count, task_files, task_refusal, wanted_volume}
+use Rattle.ig_record.specs.declared.stage.Stage.{Stage}
+use Rattle.ig_record.specs.declared.stage.Kind.{Kind}
+use Rattle.ig_record.specs.declared.stage.Kind.TheVariants.{Xfer}
+use Rattle.ig_record.specs.declared.stage.InfoFile.{InfoFile}
+use Rattle.ig_record.specs.Stage.{task_box, task_count}
+use Rattle.ig_meaning.specs.Stage.{absent_in, appended, files_of_dests, first_absent, input_box, input_count, input_path, task_files, task_refusal, wanted_volume}
 use Rattle.ig_meaning.specs.Copies.{IsCopy}
 use Rattle.ig_space.specs.CellBoxes.{chunks-IsGrid}
 use Rattle.ig_meaning.specs.TaskBoxes.{task_box-within, task_box-within_dest}
@@ -51,9 +57,13 @@ if_no_fault : (b : Bool) (cause other : Cause) → (if b then None else Some cau
 if_no_fault true cause other is = absurd (cc)
 if_no_fault false cause other is = refl
 
+fault-no_text : (fault : Option CsegFault) (cause : Cause) → option_map BadCseg fault ≡ Some cause → is_none fault ≡ false
+fault-no_text None cause is = absurd (cc)
+fault-no_text (Some fault) cause is = refl
+
 cause_in-no_text : (encoding : Encoding) (width : Width) (size : Point) (bytes : List ℕ) (cause : Cause) → cause_in encoding width size bytes ≡ Some cause → is_text encoding width size bytes ≡ false
 cause_in-no_text Raw width size bytes cause is = if_no_fault (length bytes == raw_len width size) _ cause is
-cause_in-no_text (Cseg block) width size bytes cause is = refl
+cause_in-no_text (Cseg block) width size bytes cause is = fault-no_text (fault_of block width size bytes) cause is
 
 if_not : {A : Type 0} (b : Bool) (x y : A) → b ≡ false → (if b then x else y) ≡ y
 if_not b x y e = rw e refl
@@ -106,8 +116,8 @@ pub volume_at-none : (files : List ℕ → Option (List ℕ)) (place : Place) (c
     → label_in place.geometry chunk (files (chunk_path place.dir chunk)) x y z ≡ None → volume_at files place x y z ≡ None
 volume_at-none files place chunk x y z same none = label-none place files x y z (cell_at (chunks_of place.geometry) x y z) chunk same none
 
-wanted_volume-none : (kind : Kind) (volume : ℕ → ℕ → ℕ → Option ℕ) (x y z : ℕ) → volume x y z ≡ None → wanted_volume kind volume x y z ≡ None
-wanted_volume-none Xfer volume x y z none = none
+wanted_volume-none : (kind : Kind) → kind ≡ Xfer → (volume : ℕ → ℕ → ℕ → Option ℕ) (x y z : ℕ) → volume x y z ≡ None → wanted_volume kind volume x y z ≡ None
+wanted_volume-none kind copies volume x y z none = ap (λ (k : Kind). wanted_volume k volume x y z) copies ∙ none
 
 -- the chunk that a voxel of it and of a box has, where it is one of those that meet the box
 met-cell : (g : Grid) (a : Box3) → IsGrid g → IsWithin a g.space → (i : ℕ) → i < cell_count (hull g a) → (m : Meets (cell (hull g a) i) a) → cell_at g m.x m.y m.z ≡ cell (hull g a) i
@@ -116,7 +126,7 @@ met-cell g a grid within i below m =
     ∙ cell_at-is (hull g a) (hull-IsGrid g a grid within) i m.x m.y m.z below m.in_left
 
 -- a refusal leaves nothing to put
-pub refused-none : (s : Stage) (dest : Place) (info : File) → IsCopy s dest info → (k : ℕ) → k < task_count s → (given : List ℕ → Option (List ℕ)) (r : Refusal)
+pub refused-none : (s : Stage) (dest : Place) (info : InfoFile) → IsCopy s dest info → (k : ℕ) → k < task_count s → (given : List ℕ → Option (List ℕ)) (r : Refusal)
     → task_refusal s k given ≡ Some r → task_files s k given ≡ None
 refused-none s dest info c k below given r refused =
     let g = chunks_of s.source.geometry in
@@ -128,5 +138,5 @@ refused-none s dest info c k below given r refused =
     let unlabelled = volume_at-none given s.source (input_box s k bad.at) m.x m.y m.z (met-cell g box grid within bad.at bad.below m) (bad.none m.x m.y m.z) in
     let wanted = wanted_volume s.kind (volume_at given s.source) in
     let nothing = files_in-none dest wanted box (chunks-IsGrid dest.geometry c.dest_fits) (task_box-within_dest s dest info c k below) m.x m.y m.z m.in_right
-    (wanted_volume-none s.kind (volume_at given s.source) m.x m.y m.z unlabelled) in
+    (wanted_volume-none s.kind c.kind (volume_at given s.source) m.x m.y m.z unlabelled) in
     ap (λ dests. files_of_dests dests wanted box) c.dests ∙ ap (λ files. appended files (Some [])) nothing

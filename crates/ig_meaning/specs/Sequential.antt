@@ -18,13 +18,16 @@ use Rattle.ig_layer.specs.Texts.{chunk_file, files_in, layer_files}
 use Rattle.ig_meaning.specs.Copies.{IsCopy}
 use Rattle.ig_meaning.specs.Made.{IsMadeBy, Left, MakesNoSource, run_tasks-left, task_files-layer, wanted_files-layer}
 use Rattle.ig_meaning.specs.TaskBoxes.{space_of-dest, task_box-within_dest, task_grid-IsGrid}
-use Rattle.ig_meaning.specs.Stage.{Stage, info_files, sequential, task_box, task_count, task_grid, wanted_files, wanted_volume}
+use Rattle.ig_record.specs.declared.stage.Stage.{Stage}
+use Rattle.ig_record.specs.declared.stage.InfoFile.{InfoFile}
+use Rattle.ig_record.specs.Stage.{task_box, task_count, task_grid}
+use Rattle.ig_meaning.specs.Stage.{info_files, sequential, wanted_files, wanted_volume}
 
 -- the volume that is wanted of these files
 abbrev pub wanted_of : Stage → Files → ℕ → ℕ → ℕ → Option ℕ
 wanted_of s files = wanted_volume s.kind (volume_at (file_at files) s.source)
 
-module _ (s : Stage) (dest : Place) (info : File) (copy : IsCopy s dest info) where
+module _ (s : Stage) (dest : Place) (info : InfoFile) (copy : IsCopy s dest info) where
   -- ---- what they make
   -- a task makes files of chunks of the layer
   pub task-chunks : (files : Files) (f : File) → IsMadeBy s files (task_count s) f → IsChunkFile dest (wanted_of s files) f
@@ -97,11 +100,11 @@ module _ (s : Stage) (dest : Place) (info : File) (copy : IsCopy s dest info) wh
   pub info-same : (files : Files) → FindsSame s.source.dir (file_at files) (file_at (put_all files (info_files s.info)))
   info-same files b box =
       let path = chunk_path s.source.dir b in
-      sym (ap (λ (i : Option File). file_at (put_all files (info_files i)) path) copy.has_info
-      ∙ file_at-other files path info.path info.bytes (λ e. copy.info_apart b box (sym e)))
+      sym (ap (λ (i : Option InfoFile). file_at (put_all files (info_files i)) path) copy.has_info
+      ∙ file_at-other files path info.path info.text (λ e. copy.info_apart b box (sym e)))
 
 -- The tasks of a copy, run one after the other once its info was put, leave exactly the wanted files of the whole layer.
-pub sequential-wanted : (s : Stage) (dest : Place) (info : File) → IsCopy s dest info → (files after : Files)
+pub sequential-wanted : (s : Stage) (dest : Place) (info : InfoFile) → IsCopy s dest info → (files after : Files)
     → sequential s (put_all files (info_files s.info)) ≡ Some after
     → (outputs : List File) × (wanted_files s (file_at files) ≡ Some outputs) × (put_all files (info_files s.info ++ outputs) ≡ after)
 sequential-wanted s dest info copy files after ran =

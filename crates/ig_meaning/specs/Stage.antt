@@ -1,35 +1,26 @@
--- Stages: what a command makes of a layer, cut into tasks over a grid, and the files that are wanted of it.
-use Rattle.std.specs.Prelude.{ℕ, zero, suc, ◌==◌, ◌%◌, ◌^◌, nat_le, max, if◌then◌else◌, List, [], ◌∷◌, ◌++◌, Option, None, Some, option_map}
-use Rattle.ig_space.specs.declared.point.Point.{Point}
+-- The files that are wanted of a stage, what its tasks make and why they refuse, and the sequential run.
+use Rattle.std.specs.Prelude.{ℕ, zero, suc, nat_le, if◌then◌else◌, List, [], ◌∷◌, ◌++◌, Option, None, Some, option_map}
 use Rattle.ig_space.specs.declared.point.Box3.{Box3}
-use Rattle.ig_space.specs.declared.geometry.Grid.{Grid}
 use Rattle.ig_space.specs.declared.place.Place.{Place}
 use Rattle.ig_space.specs.Chunk.{chunk_path}
-use Rattle.ig_space.specs.Grid.{cell, cell_count, chunks_of, hull, size_of, space_of}
-use Rattle.ig_space.specs.Geometry.{count}
+use Rattle.ig_space.specs.Chunks.{listed}
+use Rattle.ig_space.specs.Grid.{cell_count, chunks_of, hull}
 use Rattle.ig_defs.specs.Files.{Files, file_at}
 use Rattle.ig_defs.specs.Own.{File, put_all}
 use Rattle.ig_layer.specs.Layer.{volume_at}
 use Rattle.ig_layer.specs.Faults.{chunk_at, first_fault, first_of, or_else}
-use Rattle.ig_space.specs.Chunks.{chunks_in, listed}
 use Rattle.ig_layer.specs.Texts.{files_in, layer_files}
+use Rattle.ig_record.specs.declared.stage.Kind.{Kind}
+use Rattle.ig_record.specs.declared.stage.Kind.TheVariants.{Xfer}
+use Rattle.ig_record.specs.declared.stage.InfoFile.{InfoFile}
+use Rattle.ig_record.specs.declared.stage.Stage.{Stage}
+use Rattle.ig_record.specs.Stage.{greatest, hull_voxels, inputs_of, most_tasks, most_voxels, shape_unit, task_box, task_count, unfit_axis}
 use Rattle.ig_meaning.specs.Refusal.{Refusal, Missing, ShapeUnfit, TooManyTasks, TaskTooLarge, refusal_of}
 
--- what a stage does: copy a scale into a new layer
-pub data Kind : Type 0 where
-  Xfer : Kind
-
--- A stage: the scale that it reads, the scales that it writes, the size of a task's box, and the info that it puts.
-pub record Stage : Type 0 where
-  pub kind : Kind
-  pub source : Place
-  pub dests : List Place
-  pub shape : Point
-  pub info : Option File
-
--- the volume that is wanted of a stage, by that of its source
+-- the volume that is wanted of a stage, by that of its source; the kinds that are not listed write no layer
 abbrev pub wanted_volume : Kind → (ℕ → ℕ → ℕ → Option ℕ) → ℕ → ℕ → ℕ → Option ℕ
 wanted_volume Xfer volume = volume
+wanted_volume kind volume = λ x y z. None
 
 abbrev pub appended : {A : Type 0} → Option (List A) → Option (List A) → Option (List A)
 appended (Some xs) (Some ys) = Some (xs ++ ys)
@@ -44,42 +35,7 @@ files_of_layers (dest ∷ dests) volume = appended (layer_files dest volume) (fi
 abbrev pub wanted_files : Stage → (List ℕ → Option (List ℕ)) → Option (List File)
 wanted_files s files = files_of_layers s.dests (wanted_volume s.kind (volume_at files s.source))
 
--- ---- tasks
-abbrev pub task_grid : Stage → Grid
-task_grid s = record { space = space_of s.source.geometry; step = s.shape }
-
-abbrev pub task_count : Stage → ℕ
-task_count s = cell_count (task_grid s)
-
-abbrev pub task_box : Stage → ℕ → Box3
-task_box s k = cell (task_grid s) k
-
 -- ---- which stages can be run
--- a shape is a multiple of this
-abbrev pub shape_unit : Kind → Place → List Place → Point
-shape_unit Xfer source [] = source.geometry.chunk
-shape_unit Xfer source (dest ∷ dests) = dest.geometry.chunk
-
--- the first axis on which the shape is no multiple
-abbrev pub unfit_axis : Point → Point → Option ℕ
-unfit_axis unit shape =
-    if shape.x % unit.x == 0 then (if shape.y % unit.y == 0 then (if shape.z % unit.z == 0 then None else Some 2) else Some 1) else Some 0
-
--- the greatest of the values at 0, 1, .. below n
-abbrev pub greatest : (ℕ → ℕ) → ℕ → ℕ
-greatest f zero = 0
-greatest f (suc n) = max (greatest f n) (f n)
-
--- how many voxels the chunks that meet a task's box have, as a box of whole chunks
-abbrev pub hull_voxels : Stage → ℕ → ℕ
-hull_voxels s k = count (size_of (hull (chunks_of s.source.geometry) (task_box s k)).space)
-
-abbrev pub most_tasks : ℕ
-most_tasks = 1000000
-
-abbrev pub most_voxels : ℕ
-most_voxels = 2 ^ 24
-
 -- why a stage is not run: its shape, else its number of tasks, else its greatest task
 abbrev pub unfit_shape : Stage → Option Refusal
 unfit_shape s = option_map ShapeUnfit (unfit_axis (shape_unit s.kind s.source s.dests) s.shape)
@@ -94,10 +50,6 @@ abbrev pub unfit : Stage → Option Refusal
 unfit s = or_else (unfit_shape s) (or_else (too_many_tasks s) (too_large_task s))
 
 -- ---- what a task reads and makes
--- the paths that a task reads, in order
-abbrev pub inputs_of : Stage → ℕ → List (List ℕ)
-inputs_of s k = chunks_in s.source (task_box s k)
-
 abbrev pub files_of_dests : List Place → (ℕ → ℕ → ℕ → Option ℕ) → Box3 → Option (List File)
 files_of_dests [] volume box = Some []
 files_of_dests (dest ∷ dests) volume box = appended (files_in dest volume box) (files_of_dests dests volume box)
@@ -153,9 +105,13 @@ run_tasks s files (suc n) = run_task s n (run_tasks s files n).puts (run_tasks s
 abbrev pub sequential : Stage → Files → Option Files
 sequential s files = (run_tasks s files (task_count s)).files
 
-abbrev pub info_files : Option File → List File
+-- the file of an info
+abbrev pub file_of : InfoFile → File
+file_of info = record { path = info.path; bytes = info.text }
+
+abbrev pub info_files : Option InfoFile → List File
 info_files None = []
-info_files (Some file) = file ∷ []
+info_files (Some info) = file_of info ∷ []
 
 -- the info, and then what the sequential run puts, up to the first task that refuses
 abbrev pub planned_puts : Stage → Files → List File

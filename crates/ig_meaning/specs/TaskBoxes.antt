@@ -12,14 +12,18 @@ use Rattle.ig_space.specs.Grid.{IsGrid, IsWithin, cell_of, chunks_of, counts, hi
 use Rattle.ig_space.specs.Cells.{cell-within}
 use Rattle.ig_space.specs.CellBoxes.{chunks-IsGrid}
 use Rattle.ig_space.specs.Hulls.{IsPart, hull_high, hull_high-above, hull_low, hull_low-below, part-x, part-y, part-z}
-use Rattle.ig_defs.specs.Own.{File}
 use Rattle.ig_layer.specs.Faults.{or_else}
 use Rattle.ig_meaning.specs.Refusal.{ShapeUnfit}
-use Rattle.ig_meaning.specs.Stage.{Kind, Xfer, Stage, greatest, hull_voxels, most_tasks, most_voxels, shape_unit, task_box, task_count, task_grid, too_large_task, too_many_tasks, unfit_axis, unfit_shape}
+use Rattle.ig_record.specs.declared.stage.Stage.{Stage}
+use Rattle.ig_record.specs.declared.stage.Kind.{Kind}
+use Rattle.ig_record.specs.declared.stage.Kind.TheVariants.{Xfer}
+use Rattle.ig_record.specs.declared.stage.InfoFile.{InfoFile}
+use Rattle.ig_record.specs.Stage.{greatest, hull_voxels, most_tasks, most_voxels, shape_unit, task_box, task_count, task_grid, unfit_axis}
+use Rattle.ig_meaning.specs.Stage.{too_large_task, too_many_tasks, unfit_shape}
 use Rattle.ig_meaning.specs.Copies.{IsCopy}
 
 -- ---- the grids
-pub task_grid-IsGrid : (s : Stage) (dest : Place) (info : File) → IsCopy s dest info → IsGrid (task_grid s)
+pub task_grid-IsGrid : (s : Stage) (dest : Place) (info : InfoFile) → IsCopy s dest info → IsGrid (task_grid s)
 task_grid-IsGrid s dest info c =
     let whole = chunks-IsGrid s.source.geometry c.source_fits in
     record {
@@ -35,15 +39,15 @@ task_grid-IsGrid s dest info c =
     }
 
 -- both layers have one space
-pub space_of-dest : (s : Stage) (dest : Place) (info : File) → IsCopy s dest info → space_of s.source.geometry ≡ space_of dest.geometry
+pub space_of-dest : (s : Stage) (dest : Place) (info : InfoFile) → IsCopy s dest info → space_of s.source.geometry ≡ space_of dest.geometry
 space_of-dest s dest info c =
     let space : Point → Point → Box3 = λ offset size. record { lo = offset; hi = record { x = offset.x + size.x; y = offset.y + size.y; z = offset.z + size.z } } in
     ap (λ offset. space offset s.source.geometry.size) (sym c.offset) ∙ ap (space dest.geometry.offset) (sym c.size)
 
-pub task_box-within : (s : Stage) (dest : Place) (info : File) → IsCopy s dest info → (k : ℕ) → k < task_count s → IsWithin (task_box s k) (space_of s.source.geometry)
+pub task_box-within : (s : Stage) (dest : Place) (info : InfoFile) → IsCopy s dest info → (k : ℕ) → k < task_count s → IsWithin (task_box s k) (space_of s.source.geometry)
 task_box-within s dest info c k below = cell-within (task_grid s) (task_grid-IsGrid s dest info c) k below
 
-pub task_box-within_dest : (s : Stage) (dest : Place) (info : File) → IsCopy s dest info → (k : ℕ) → k < task_count s → IsWithin (task_box s k) (space_of dest.geometry)
+pub task_box-within_dest : (s : Stage) (dest : Place) (info : InfoFile) → IsCopy s dest info → (k : ℕ) → k < task_count s → IsWithin (task_box s k) (space_of dest.geometry)
 task_box-within_dest s dest info c k below = subst (IsWithin (task_box s k)) (space_of-dest s dest info c) (task_box-within s dest info c k below)
 
 -- ---- what a stage that can be run has
@@ -68,9 +72,6 @@ if_allowed : {A : Type 0} (b : Bool) (x : A) → (if b then None else Some x) �
 if_allowed true x none = refl
 if_allowed false x none = absurd (cc)
 
-shape_unit-first : (kind : Kind) (source dest : Place) (dests : List Place) → shape_unit kind source (dest ∷ dests) ≡ dest.geometry.chunk
-shape_unit-first Xfer source dest dests = refl
-
 -- each side of the shape is a multiple of the chunk's
 record IsWhole (unit shape : Point) : Type 0 where
   x : shape.x % unit.x ≡ 0
@@ -82,13 +83,13 @@ unfit_axis-none unit shape none =
     let all = all_whole (shape.x % unit.x == 0) (shape.y % unit.y == 0) (shape.z % unit.z == 0) none in
     record { x = eqb-true _ _ all.0; y = eqb-true _ _ all.1; z = eqb-true _ _ all.2 }
 
-shape-whole : (s : Stage) (dest : Place) (info : File) → IsCopy s dest info → IsWhole dest.geometry.chunk s.shape
+shape-whole : (s : Stage) (dest : Place) (info : InfoFile) → IsCopy s dest info → IsWhole dest.geometry.chunk s.shape
 shape-whole s dest info c =
     let no_shape = option_map-none ShapeUnfit _ (or_else-none (unfit_shape s) _ c.fit).0 in
-    let unit : shape_unit s.kind s.source s.dests ≡ dest.geometry.chunk = ap (shape_unit s.kind s.source) c.dests ∙ shape_unit-first s.kind s.source dest [] in
+    let unit : shape_unit s.kind s.source s.dests ≡ dest.geometry.chunk = ap (shape_unit s.kind s.source) c.dests ∙ ap (λ (kind : Kind). shape_unit kind s.source (dest ∷ [])) c.kind in
     subst (λ unit. IsWhole unit s.shape) unit (unfit_axis-none (shape_unit s.kind s.source s.dests) s.shape no_shape)
 
-pub task_count-few : (s : Stage) (dest : Place) (info : File) → IsCopy s dest info → task_count s ≤ 1000000
+pub task_count-few : (s : Stage) (dest : Place) (info : InfoFile) → IsCopy s dest info → task_count s ≤ 1000000
 task_count-few s dest info c =
     let no_count = (or_else-none (too_many_tasks s) (too_large_task s) (or_else-none (unfit_shape s) _ c.fit).1).0 in
     leb-true (task_count s) most_tasks (if_allowed _ _ no_count)
@@ -103,7 +104,7 @@ greatest-above : (f : ℕ → ℕ) (n k : ℕ) → k < n → f k ≤ greatest f 
 greatest-above f zero k below = absurd (omega (arith, below))
 greatest-above f (suc n) k below = greatest-once f n k below (greatest-above f n k) (cases_lt k n)
 
-pub task_hull-few : (s : Stage) (dest : Place) (info : File) → IsCopy s dest info → (k : ℕ) → k < task_count s → hull_voxels s k ≤ 2 ^ 24
+pub task_hull-few : (s : Stage) (dest : Place) (info : InfoFile) → IsCopy s dest info → (k : ℕ) → k < task_count s → hull_voxels s k ≤ 2 ^ 24
 task_hull-few s dest info c k below =
     let no_size = (or_else-none (too_many_tasks s) (too_large_task s) (or_else-none (unfit_shape s) _ c.fit).1).1 in
     let few : greatest (hull_voxels s) (task_count s) ≤ most_voxels = leb-true (greatest (hull_voxels s) (task_count s)) most_voxels (if_allowed _ _ no_size) in
@@ -148,7 +149,7 @@ cell-aligned space step shape i whole grid within =
     λ j. record { lo = record { x = lx j; y = ly j; z = lz j }; hi = record { x = hx j; y = hy j; z = hz j } }
 
 -- a task's box is made of whole chunks of the new layer
-pub task_box-aligned : (s : Stage) (dest : Place) (info : File) → IsCopy s dest info → (k : ℕ) → k < task_count s
+pub task_box-aligned : (s : Stage) (dest : Place) (info : InfoFile) → IsCopy s dest info → (k : ℕ) → k < task_count s
     → (hull (chunks_of dest.geometry) (task_box s k)).space ≡ task_box s k
 task_box-aligned s dest info c k below =
     let same = space_of-dest s dest info c in
@@ -174,7 +175,7 @@ hull-around g a grid within = record {
   z_to = hull_high-above g.space.lo.z g.space.hi.z g.step.z a.lo.z a.hi.z (part-z g a grid within);
 }
 
-pub task_box-few : (s : Stage) (dest : Place) (info : File) → IsCopy s dest info → (k : ℕ) → k < task_count s → count (size_of (task_box s k)) ≤ 2 ^ 24
+pub task_box-few : (s : Stage) (dest : Place) (info : InfoFile) → IsCopy s dest info → (k : ℕ) → k < task_count s → count (size_of (task_box s k)) ≤ 2 ^ 24
 task_box-few s dest info c k below =
     let g = chunks_of s.source.geometry in
     let b = task_box s k in

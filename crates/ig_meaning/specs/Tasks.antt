@@ -12,7 +12,11 @@ use Rattle.ig_defs.specs.Files.{Files, file_at}
 use Rattle.ig_defs.specs.Own.{File, put_all}
 use Rattle.ig_layer.specs.Faults.{fault_in, first_fault, first_of, or_else}
 use Rattle.ig_meaning.specs.Refusal.{Refusal, refusal_of}
-use Rattle.ig_meaning.specs.Stage.{Ran, Stage, absent_in, first_absent, input_box, input_count, input_path, inputs_of, run_task, run_tasks, task_box, task_files, task_refusal, with_task}
+use Rattle.ig_record.specs.declared.stage.Stage.{Stage}
+use Rattle.ig_record.specs.declared.stage.Kind.{Kind}
+use Rattle.ig_record.specs.declared.stage.Kind.TheVariants.{Xfer}
+use Rattle.ig_record.specs.Stage.{inputs_by, inputs_of, task_box}
+use Rattle.ig_meaning.specs.Stage.{Ran, absent_in, first_absent, input_box, input_count, input_path, run_task, run_tasks, task_files, task_refusal, with_task}
 use Rattle.ig_meaning.specs.Fault.{Find, begin_with, fault_of_tasks, finds_in, found_among}
 
 -- ---- what a task answers depends on its inputs alone
@@ -96,35 +100,41 @@ pub get_or-listed : {A : Type 0} (f : ℕ → A) (n i : ℕ) (d : A) → i < n �
 get_or-listed f zero i d below = absurd (omega (arith, below))
 get_or-listed f (suc n) i d below = at_either f n i d below (get_or-listed f n i d) (cases_lt i n)
 
-pub found_among-input : (s : Stage) (k : ℕ) (given : List ℕ → Option (List ℕ)) (i : ℕ) → i < input_count s k
+-- a copy reads the chunks that meet the task's box
+pub inputs_of-copy : (s : Stage) → s.kind ≡ Xfer → (k : ℕ) → inputs_of s k ≡ listed (input_path s k) (input_count s k)
+inputs_of-copy s copies k = ap (λ (kind : Kind). inputs_by kind s k) copies
+
+pub found_among-input : (s : Stage) → s.kind ≡ Xfer → (k : ℕ) (given : List ℕ → Option (List ℕ)) (i : ℕ) → i < input_count s k
     → found_among (finds_in given (inputs_of s k)) (input_path s k i) ≡ given (input_path s k i)
-found_among-input s k given i below =
-    let at : get_or (inputs_of s k) i [] ≡ input_path s k i = get_or-listed (input_path s k) (input_count s k) i [] below in
-    let found = found_among-finds given (inputs_of s k) i (omega (arith, below, length-listed (input_path s k) (input_count s k))) in
+found_among-input s copies k given i below =
+    let same = inputs_of-copy s copies k in
+    let at : get_or (inputs_of s k) i [] ≡ input_path s k i = ap (λ paths. get_or paths i []) same ∙ get_or-listed (input_path s k) (input_count s k) i [] below in
+    let long : length (inputs_of s k) ≡ input_count s k = ap length same ∙ length-listed (input_path s k) (input_count s k) in
+    let found = found_among-finds given (inputs_of s k) i (omega (arith, below, long)) in
     ap (found_among (finds_in given (inputs_of s k))) (sym at) ∙ found ∙ ap given at
 
 -- ---- the fault of the tasks
-pub task_refusal-finds : (s : Stage) (k : ℕ) (given : List ℕ → Option (List ℕ)) (rest : List Find)
+pub task_refusal-finds : (s : Stage) → s.kind ≡ Xfer → (k : ℕ) (given : List ℕ → Option (List ℕ)) (rest : List Find)
     → task_refusal s k (found_among (take (length (inputs_of s k)) (finds_in given (inputs_of s k) ++ rest))) ≡ task_refusal s k given
-task_refusal-finds s k given rest =
-    rw (take-finds given (inputs_of s k) rest) (task_refusal-agrees s k (found_among (finds_in given (inputs_of s k))) given (found_among-input s k given))
+task_refusal-finds s copies k given rest =
+    rw (take-finds given (inputs_of s k) rest) (task_refusal-agrees s k (found_among (finds_in given (inputs_of s k))) given (found_among-input s copies k given))
 
 -- of a task whose inputs were all read
-pub fault_of_tasks-read : (s : Stage) (left k : ℕ) (given : List ℕ → Option (List ℕ)) (rest : List Find)
+pub fault_of_tasks-read : (s : Stage) → s.kind ≡ Xfer → (left k : ℕ) (given : List ℕ → Option (List ℕ)) (rest : List Find)
     → fault_of_tasks s (suc left) k (finds_in given (inputs_of s k) ++ rest) ≡ or_else (task_refusal s k given) (fault_of_tasks s left (k + 1) rest)
-fault_of_tasks-read s left k given rest =
-    rw (begin_with-finds given (inputs_of s k) rest) (rw (task_refusal-finds s k given rest) (rw (drop-finds given (inputs_of s k) rest) refl))
+fault_of_tasks-read s copies left k given rest =
+    rw (begin_with-finds given (inputs_of s k) rest) (rw (task_refusal-finds s copies k given rest) (rw (drop-finds given (inputs_of s k) rest) refl))
 
-pub fault_of_tasks-goes_on : (s : Stage) (left k : ℕ) (given : List ℕ → Option (List ℕ)) (rest : List Find) → task_refusal s k given ≡ None
+pub fault_of_tasks-goes_on : (s : Stage) → s.kind ≡ Xfer → (left k : ℕ) (given : List ℕ → Option (List ℕ)) (rest : List Find) → task_refusal s k given ≡ None
     → fault_of_tasks s (suc left) k (finds_in given (inputs_of s k) ++ rest) ≡ fault_of_tasks s left (k + 1) rest
-fault_of_tasks-goes_on s left k given rest none =
-    fault_of_tasks-read s left k given rest ∙ ap (λ r. or_else r (fault_of_tasks s left (k + 1) rest)) none
+fault_of_tasks-goes_on s copies left k given rest none =
+    fault_of_tasks-read s copies left k given rest ∙ ap (λ r. or_else r (fault_of_tasks s left (k + 1) rest)) none
 
-pub fault_of_tasks-refuses : (s : Stage) (left k : ℕ) (given : List ℕ → Option (List ℕ)) (r : Refusal) → task_refusal s k given ≡ Some r
+pub fault_of_tasks-refuses : (s : Stage) → s.kind ≡ Xfer → (left k : ℕ) (given : List ℕ → Option (List ℕ)) (r : Refusal) → task_refusal s k given ≡ Some r
     → fault_of_tasks s (suc left) k (finds_in given (inputs_of s k)) ≡ Some r
-fault_of_tasks-refuses s left k given r is =
+fault_of_tasks-refuses s copies left k given r is =
     ap (fault_of_tasks s (suc left) k) (sym (append-nil (finds_in given (inputs_of s k))))
-    ∙ fault_of_tasks-read s left k given [] ∙ ap (λ r. or_else r (fault_of_tasks s left (k + 1) [])) is
+    ∙ fault_of_tasks-read s copies left k given [] ∙ ap (λ r. or_else r (fault_of_tasks s left (k + 1) [])) is
 
 pub fault_of_tasks-unread : (s : Stage) (left k : ℕ) (given : List ℕ → Option (List ℕ)) (some : List (List ℕ)) → length some < length (inputs_of s k)
     → fault_of_tasks s left k (finds_in given some) ≡ None

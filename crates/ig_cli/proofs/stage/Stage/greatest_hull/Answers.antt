@@ -1,4 +1,4 @@
-use Rattle.ig_meaning.specs.Stage.{hull_voxels}
+use Rattle.ig_record.specs.Stage.{hull_voxels}
 use Rattle.ig_cli.specs.Stages.{shown}
 use Rattle.ig_cli.proofs.Drafts.{greatest_more}
 use Rattle.ig_cli.proofs.stage.Stage.greatest_hull.Goals as goal

@@ -1,6 +1,6 @@
 -- So far the greatest of the first tasks was found.
 use Rattle.std.proofs.Common.{◌≡◌}
-use Rattle.ig_meaning.specs.Stage.{greatest, hull_voxels}
+use Rattle.ig_record.specs.Stage.{greatest, hull_voxels}
 use Rattle.ig_cli.specs.Stages.{shown}
 use Rattle.ig_cli.proofs.stage.Stage.greatest_hull.Given as goal
 
