@@ -1,6 +1,7 @@
 pub mod Stage
 pub mod Sound
 pub mod SoundFacts
+pub mod SoundKinds
 pub mod Members
 pub mod Record
 pub mod Answers

@@ -7,6 +7,8 @@ use Rattle.std.specs.List.{AllByRecursion}
 use Rattle.std.specs.Str.{bytes_eq, is_utf8}
 use Rattle.ig_space.specs.declared.point.Point.{Point}
 use Rattle.ig_space.specs.declared.geometry.Geometry.{Geometry}
+use Rattle.ig_space.specs.declared.geometry.Width.{Width}
+use Rattle.ig_space.specs.declared.geometry.Width.TheVariants.{W8, W16, W32, W64}
 use Rattle.ig_space.specs.declared.place.Place.{Place}
 use Rattle.ig_space.specs.Geometry.{geometry_fits, label_len, Fits-from}
 use Rattle.ig_space.specs.Grid.{space_of}
@@ -37,6 +39,9 @@ pub record IsDir (dir : List ℕ) : Type 0 where
 pub record IsDest (source dest : Place) : Type 0 where
   pub dir : IsDir dest.dir
   pub fits : geometry_fits dest.geometry ≡ true
+  pub offset : dest.geometry.offset ≡ source.geometry.offset
+  pub size : dest.geometry.size ≡ source.geometry.size
+  pub width : dest.geometry.width ≡ source.geometry.width
   pub space : space_of dest.geometry ≡ space_of source.geometry
 
 pub record IsPut (info : InfoFile) : Type 0 where
@@ -97,7 +102,7 @@ split-either test before rest c true true later is holds more h = split-here tes
 split-either test before rest c true false later is holds more h = split-more test before rest c (more h)
 split-either test before rest c false passes later is holds more h = split-more test before rest c (more h)
 
-split-from : (test : List ℕ → List ℕ → Bool) (before rest : List ℕ) → some_split test before rest ≡ true → IsSplit test (before ++ rest)
+pub split-from : (test : List ℕ → List ℕ → Bool) (before rest : List ℕ) → some_split test before rest ≡ true → IsSplit test (before ++ rest)
 split-from test before [] h = absurd cc
 split-from test before (c ∷ rest) h =
     split-either test before rest c (c == 47) (test before rest) (some_split test (before ++ c ∷ []) rest) refl refl (split-from test (before ++ c ∷ []) rest) h
@@ -105,7 +110,7 @@ split-from test before (c ∷ rest) h =
 pub word-path : (text : List ℕ) → is_word text ≡ true → (is_path text ≡ true) × (length text ≤ 100)
 word-path text h = let p = and_parts (is_path text) (nat_le (length text) 100) h in (p.0, leb-true (length text) 100 p.1)
 
-IsDir-joined : (dir layer key : List ℕ) → dir ≡ joined layer key → is_word layer ≡ true → is_word key ≡ true → IsDir dir
+pub IsDir-joined : (dir layer key : List ℕ) → dir ≡ joined layer key → is_word layer ≡ true → is_word key ≡ true → IsDir dir
 IsDir-joined dir layer key e l k =
     let a = word-path layer l in
     let b = word-path key k in
@@ -129,13 +134,41 @@ same_point-from p q h =
 abbrev with_points : Geometry → Point → Point → Geometry
 with_points g offset size = record { offset = offset; size = size; chunk = g.chunk; width = g.width; encoding = g.encoding }
 
-same_space : (g h : Geometry) → same_voxels g h ≡ true → space_of h ≡ space_of g
-same_space g h e =
+same_width : (v w : Width) → (label_len v == label_len w) ≡ true → w ≡ v
+same_width W8 W8 e = refl
+same_width W16 W16 e = refl
+same_width W32 W32 e = refl
+same_width W64 W64 e = refl
+same_width W8 W16 e = absurd cc
+same_width W8 W32 e = absurd cc
+same_width W8 W64 e = absurd cc
+same_width W16 W8 e = absurd cc
+same_width W16 W32 e = absurd cc
+same_width W16 W64 e = absurd cc
+same_width W32 W8 e = absurd cc
+same_width W32 W16 e = absurd cc
+same_width W32 W64 e = absurd cc
+same_width W64 W8 e = absurd cc
+same_width W64 W16 e = absurd cc
+same_width W64 W32 e = absurd cc
+
+-- a scale that is written has the voxels of the source
+pub dest-from : (source dest : Place) → IsDir dest.dir → geometry_fits dest.geometry ≡ true → same_voxels source.geometry dest.geometry ≡ true → IsDest source dest
+dest-from source dest dir fits e =
+    let g = source.geometry in
+    let h = dest.geometry in
     let a = and_parts (same_point g.offset h.offset) _ e in
     let b = and_parts (same_point g.size h.size) _ a.1 in
     let offset = sym (same_point-from g.offset h.offset a.0) in
     let size = sym (same_point-from g.size h.size b.0) in
-    λ i. space_of (with_points g (offset i) (size i))
+    record {
+      dir = dir;
+      fits = fits;
+      offset = offset;
+      size = size;
+      width = same_width g.width h.width b.1;
+      space = λ i. space_of (with_points g (offset i) (size i));
+    }
 
 sides-fit : (g : Geometry) → geometry_fits g ≡ true → HasSides g.chunk
 sides-fit g h = let f = Fits-from g h in record { x = f.x_step; y = f.y_step; z = f.z_step }
@@ -166,7 +199,7 @@ copy-from key source (dest ∷ []) scratch (Some info) word none h =
     let k = and_parts (is_word layer) _ a.0 in
     let whole : dest.dir ≡ joined layer key = sym ((bytes_eq-Decides (joined layer key) dest.dir).0 k.1) in
     record {
-      writes = (record { dir = IsDir-joined dest.dir layer key whole k.0 word; fits = d.0; space = same_space source.geometry dest.geometry d.1 }, tt);
+      writes = (dest-from source dest (IsDir-joined dest.dir layer key whole k.0 word) d.0 d.1, tt);
       unit = sides-fit dest.geometry d.0;
       keeps = none-from scratch (λ dir. is_path dir ≡ true) none;
       puts = info-from key dest.dir info k.0 b.0;
@@ -212,7 +245,7 @@ HasLayers-from s fits h =
 side-from : (n : ℕ) → is_side n ≡ true → (1 ≤ n) × (n ≤ 2 ^ 64 - 1)
 side-from n h = let p = and_parts (nat_le 1 n) (nat_le n (2 ^ 64 - 1)) h in (leb-true 1 n p.0, leb-true n (2 ^ 64 - 1) p.1)
 
-is_none-None : {A : Type 0} (o : Option A) → is_none o ≡ true → o ≡ None
+pub is_none-None : {A : Type 0} (o : Option A) → is_none o ≡ true → o ≡ None
 is_none-None None h = refl
 is_none-None (Some a) h = absurd cc
 

@@ -23,6 +23,7 @@ pub use error::RecordError;
 pub use filed::read_task;
 pub use lists::{dirs, inputs, paths, removed};
 pub use recorded::read_stage;
+pub use soundness::{MOST_TASKS, MOST_VOXELS};
 pub use stage::{InfoFile, Kind, Places, Stage};
 pub use task::write_task;
-pub use writing::write_stage;
+pub use writing::{kind_word, write_stage};

@@ -14,10 +14,10 @@ use ig_space::{Geometry, Path, Place, Point, bytes_each, is_path_text};
 const LONGEST_WORD: usize = 100;
 
 /// The most tasks that a stage has.
-const MOST_TASKS: u128 = 1_000_000;
+pub const MOST_TASKS: u128 = 1_000_000;
 
 /// The most voxels that the chunks have that one task reads.
-const MOST_VOXELS: u128 = 1 << 24;
+pub const MOST_VOXELS: u128 = 1 << 24;
 
 /// Whether the bytes are a path of at most 100 bytes.
 fn is_word(text: &[u8]) -> bool
@@ -198,7 +198,7 @@ fn has_shape(stage: &Stage) -> bool
 {
     let shape = stage.shape;
     let sides = is_side(shape.x) && is_side(shape.y) && is_side(shape.z);
-    sides && unfit_axis(unit(stage), shape).is_none()
+    sides && stage.unfit_axis().is_none()
 }
 
 /// Whether there are not many tasks, and none of them is large.
@@ -207,10 +207,18 @@ fn has_tasks(stage: &Stage) -> bool
     requires sides { HasSides stage.now.shape }
     ensures { result ≡ has_tasks stage.now }
 {
-    stage.grid().count() <= MOST_TASKS && stage.greatest_hull() <= MOST_VOXELS
+    stage.task_count() <= MOST_TASKS && stage.greatest_hull() <= MOST_VOXELS
 }
 
 impl Stage {
+    /// The first axis, from 0 to 2, on which the shape is no multiple of what its kind asks for.
+    pub fn unfit_axis(&self) -> Option<u32>
+        requires { HasSides (shape_unit self.now.kind self.now.source self.now.dests) }
+        ensures { result ≡ unfit_axis_of (shape_unit self.now.kind self.now.source self.now.dests) self.now.shape }
+    {
+        unfit_axis(unit(self), self.shape)
+    }
+
     /// Whether it can be recorded and run.
     #[tactic(auto, unfolding(crate::specs::Sound::is_sound))]
     pub fn sound(&self) -> bool

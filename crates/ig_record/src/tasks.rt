@@ -20,7 +20,7 @@ fn voxels(area: Box3) -> u128
 
 impl Stage {
     /// The boxes of its tasks, as a grid.
-    pub(crate) fn grid(&self) -> Grid
+    fn grid(&self) -> Grid
         requires fits { geometry_fits self.now.source.geometry ≡ true }
         requires sides { HasSides self.now.shape }
         ensures value { result ≡ task_grid self.now }
@@ -43,15 +43,24 @@ impl Stage {
         voxels(self.source.geometry.chunks().hull(area).space)
     }
 
+    /// How many tasks it has, also where these are too many for a sound stage.
+    pub fn task_count(&self) -> u128
+        requires fits { geometry_fits self.now.source.geometry ≡ true }
+        requires sides { HasSides self.now.shape }
+        ensures { result ≡ task_count self.now }
+    {
+        self.grid().count()
+    }
+
     /// How many voxels the chunks have that meet the box of a task, at most.
-    pub(crate) fn greatest_hull(&self) -> u128
+    pub fn greatest_hull(&self) -> u128
         requires fits { geometry_fits self.now.source.geometry ≡ true }
         requires sides { HasSides self.now.shape }
         requires few { task_count self.now ≤ most_tasks }
         ensures { result ≡ greatest (hull_voxels self.now) (task_count self.now) }
     {
         let mut greatest = 0;
-        for task in 0..self.grid().count() as u64 {
+        for task in 0..self.task_count() as u64 {
             greatest = greatest.max(self.hull_voxels(task));
         }
         greatest

@@ -107,7 +107,7 @@ fn scratch_value(alloc: Global, scratch: &Option<Path>) -> Result<Value, AllocEr
 }
 
 /// The word for what a stage does.
-pub(crate) fn kind_word(kind: Kind) -> &'static str
+pub fn kind_word(kind: Kind) -> &'static str
     ensures { result.now ≡ kind_word kind }
 {
     match kind {
