@@ -19,6 +19,9 @@ pub mod Untouched
 pub mod ScratchWanted
 pub mod QueueStays
 pub mod Beside
+-- what a process did beside others
+pub mod Went
+pub mod WentOn
 -- what they rest on
 pub mod Digits
 pub mod DirPaths
