@@ -10,7 +10,8 @@ use Rattle.ig_record.specs.declared.stage.Stage.{Stage}
 use Rattle.ig_record.specs.declared.stage.InfoFile.{InfoFile}
 use Rattle.ig_meaning.specs.Stage.{info_files, planned_puts, planned_reads, sequential, unfit, wanted_files}
 use Rattle.ig_meaning.specs.Plan.{stage_of}
-use Rattle.ig_meaning.specs.Fault.{Making, Refused, Unfinished, Planned, fault_of, making_of}
+use Rattle.ig_meaning.specs.Making.{Making, Refused, Unfinished, Planned, New, Continues}
+use Rattle.ig_meaning.specs.Fault.{fault_of, making_of}
 use Rattle.ig_meaning.specs.Ending.{AreFirst}
 use Rattle.ig_meaning.specs.Lines.{fault_line, refusal_text}
 
@@ -59,12 +60,16 @@ abbrev pub PutsInOrder : Making → Files → List Moment → Type 0
 PutsInOrder (Refused refusal) files ms = AllLook ms
 PutsInOrder Unfinished files ms = AllLook ms
 PutsInOrder (Planned stage after) files ms = AreFirst (puts_of ms) (planned_puts stage files)
+PutsInOrder (New number stage after) files ms = Unit {0}
+PutsInOrder (Continues number stage after) files ms = Unit {0}
 
 -- Where a task refused, the own puts are all of that plan.
 abbrev pub PutsAll : Making → Files → List Moment → Type 0
 PutsAll (Refused refusal) files ms = Unit {0}
 PutsAll Unfinished files ms = Unit {0}
 PutsAll (Planned stage after) files ms = puts_of ms ≡ planned_puts stage files
+PutsAll (New number stage after) files ms = Unit {0}
+PutsAll (Continues number stage after) files ms = Unit {0}
 
 -- the line on standard error at status 5: that of the fault
 pub record IsRefusal (words : List (List ℕ)) (old new : Log) (text : List ℕ) : Type 0 where

@@ -10,8 +10,7 @@ use Rattle.ig_record.specs.declared.stage.Kind.TheVariants.{Xfer}
 use Rattle.ig_record.specs.declared.stage.InfoFile.{InfoFile}
 use Rattle.ig_meaning.specs.Stage.{unfit}
 
--- The copy of a scale into another directory: the same voxels, in chunks of any size, and a shape that fits. Its info is
--- no chunk of the source.
+-- The copy of a scale: the same voxels, in chunks of any size, and a shape that fits.
 pub record IsCopy (s : Stage) (dest : Place) (info : InfoFile) : Type 0 where
   pub kind : s.kind ≡ Xfer
   pub dests : s.dests ≡ dest ∷ []
@@ -23,7 +22,10 @@ pub record IsCopy (s : Stage) (dest : Place) (info : InfoFile) : Type 0 where
   pub width : dest.geometry.width ≡ s.source.geometry.width
   pub source_short : length s.source.dir ≤ 201
   pub dest_short : length dest.dir ≤ 201
-  pub apart : s.source.dir ≢ dest.dir
-  pub info_apart : (b : Box3) → IsBox b → info.path ≢ chunk_path s.source.dir b
   pub shape : (1 ≤ s.shape.x) × (1 ≤ s.shape.y) × (1 ≤ s.shape.z)
   pub fit : unfit s ≡ None
+
+-- It is written elsewhere: into another directory than that of its source, and its info is no chunk of the source.
+pub record IsElsewhere (s : Stage) (dest : Place) (info : InfoFile) : Type 0 where
+  pub apart : s.source.dir ≢ dest.dir
+  pub info_apart : (b : Box3) → IsBox b → info.path ≢ chunk_path s.source.dir b

@@ -6,8 +6,10 @@ use Rattle.ig_info.specs.declared.error.InfoError.TheVariants.{NotJson, Member, 
 use Rattle.ig_cseg.specs.declared.fault.CsegFault.{CsegFault}
 use Rattle.ig_cseg.specs.declared.fault.CsegFault.TheVariants.{NotWords, NoChannel, HeaderShort, BadBits, ValuesOutside, TableOutside}
 use Rattle.ig_layer.specs.Faults.{Cause, BadCseg, WrongLength}
+use Rattle.ig_defs.specs.QueueNames.{digits}
 use Rattle.ig_record.specs.Record.{kind_word}
-use Rattle.ig_meaning.specs.Refusal.{Refusal, Missing, BadInfo, NoScale, NotEmpty, ShapeUnfit, TooManyTasks, TaskTooLarge, Malformed}
+use Rattle.ig_meaning.specs.Refusal.{Refusal, Missing, BadInfo, NoScale, NotEmpty, ShapeUnfit, TooManyTasks, TaskTooLarge, Malformed, TooManyParts, BadRecord, TooManyStages, Taken}
+use Rattle.ig_meaning.specs.Making.{Making, Refused, Unfinished, Planned, New, Continues}
 use Rattle.ig_record.specs.declared.stage.Stage.{Stage}
 use Rattle.ig_record.specs.declared.stage.Kind.{Kind}
 use Rattle.ig_record.specs.Stage.{task_count}
@@ -32,6 +34,18 @@ info_cause NotJson = codes "not JSON"
 info_cause (Member path) = spaced (codes "member") path
 info_cause (Unsupported member) = spaced (codes "unsupported") member
 info_cause Memory = codes "out of memory"
+
+-- on standard output, for stage n of a queue: SSSS KIND tasks N, after a word
+abbrev pub queue_line : List ℕ → ℕ → Kind → ℕ → List ℕ
+queue_line word n kind tasks = line (spaced word (spaced (digits 4 n) (spaced (kind_word kind) (spaced (codes "tasks") (decimal tasks)))))
+
+-- the line of a stage that was made in a queue: `made ..` of a new one, `continued ..` of one that was there and not sealed
+abbrev pub made_line : Making → List ℕ
+made_line (New n s after) = queue_line (codes "made") n s.kind (task_count s)
+made_line (Continues n s after) = queue_line (codes "continued") n s.kind (task_count s)
+made_line (Planned s after) = []
+made_line (Refused refusal) = []
+made_line Unfinished = []
 
 -- what is wrong with a compressed chunk
 abbrev pub cseg_text : CsegFault → List ℕ
@@ -60,6 +74,10 @@ refusal_text (ShapeUnfit axis) = spaced (codes "shape does not fit axis") (axis_
 refusal_text (TooManyTasks count) = spaced (codes "too many tasks") (decimal count)
 refusal_text (TaskTooLarge voxels) = spaced (codes "task too large") (decimal voxels)
 refusal_text (Malformed path cause) = spaced (codes "malformed") (spaced path (cause_text cause))
+refusal_text (TooManyParts count) = spaced (codes "too many parts") (decimal count)
+refusal_text (BadRecord path member) = spaced (codes "malformed") (spaced path (spaced (codes "record member") member))
+refusal_text (TooManyStages count) = spaced (codes "too many stages") (decimal count)
+refusal_text (Taken stage) = spaced (codes "taken by stage") (digits 4 stage)
 
 -- on standard error, for the fault with which a command ends
 abbrev pub fault_line : List ℕ → List ℕ

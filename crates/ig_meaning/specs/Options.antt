@@ -1,9 +1,9 @@
 -- Options among the words of a command, and the values of options: this project's own.
-use Rattle.std.specs.Prelude.{ℕ, ◌==◌, ◌&&◌, Bool, false, if◌then◌else◌, List, [], ◌∷◌, length, Option, None, Some, option_map, option_and_then, is_none, codes}
+use Rattle.std.specs.Prelude.{ℕ, ◌==◌, ◌&&◌, Bool, false, if◌then◌else◌, List, [], ◌∷◌, length, nat_le, Option, None, Some, option_map, option_and_then, is_none, codes}
 use Rattle.std.specs.Str.{all_ascii_digits, bytes_eq}
 use Rattle.std.specs.Str.Parse.{digits_value}
 use Rattle.ig_space.specs.declared.point.Point.{Point}
-use Rattle.ig_space.specs.Path.{within}
+use Rattle.ig_space.specs.Path.{is_path, within}
 
 -- a text in two, before and after the first such byte
 abbrev pub cut_at : ℕ → List ℕ → Option (List ℕ × List ℕ)
@@ -66,6 +66,10 @@ largest_value = 16777216
 
 abbrev pub side_of : List ℕ → Option ℕ
 side_of text = number_in 1 largest_value text
+
+-- a path of at most 100 bytes
+abbrev pub is_short_path : List ℕ → Bool
+is_short_path word = is_path word && nat_le (length word) 100
 
 -- three sides: X,Y,Z
 unfoldable pub sides_of : List ℕ → Option Point

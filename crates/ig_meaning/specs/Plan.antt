@@ -16,7 +16,7 @@ use Rattle.ig_defs.specs.Files.{Files, file_at}
 use Rattle.ig_meaning.specs.Refusal.{Refusal, BadInfo, NoScale}
 use Rattle.ig_record.specs.declared.stage.Stage.{Stage}
 use Rattle.ig_record.specs.declared.stage.Kind.TheVariants.{Xfer}
-use Rattle.ig_meaning.specs.Words.{Coding, Plain, Compressed, Command, Copy, Request, command_of}
+use Rattle.ig_meaning.specs.Words.{Coding, Plain, Compressed, Command, Copy, Enqueue, Request, command_of}
 
 -- the info file of a layer
 abbrev pub info_path : List ℕ → List ℕ
@@ -93,7 +93,8 @@ stage_of_found request (Some bytes) = result_ok (planned request bytes)
 abbrev pub stage_of_command : Option Command → Files → Option Stage
 stage_of_command None files = None
 stage_of_command (Some (Copy request)) files = stage_of_found request (file_at files (info_path request.source))
+stage_of_command (Some (Enqueue q request)) files = None
 
--- the stage of a call with these words, by the files at its entry
+-- the stage that a call with these words runs itself, by the files at its entry
 abbrev pub stage_of : List (List ℕ) → Files → Option Stage
 stage_of words files = stage_of_command (command_of words) files

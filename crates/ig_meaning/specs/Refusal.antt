@@ -12,6 +12,10 @@ pub data Refusal : Type 0 where
   TooManyTasks : (count : ℕ) → Refusal
   TaskTooLarge : (voxels : ℕ) → Refusal
   Malformed : (path : List ℕ) → (cause : Cause) → Refusal
+  TooManyParts : (count : ℕ) → Refusal
+  BadRecord : (path member : List ℕ) → Refusal
+  TooManyStages : (count : ℕ) → Refusal
+  Taken : (stage : ℕ) → Refusal
 
 -- what is wrong with a chunk, as a refusal
 abbrev pub refusal_of : Fault → Refusal

@@ -27,6 +27,7 @@ use Rattle.ig_record.specs.declared.stage.InfoFile.{InfoFile}
 use Rattle.ig_record.specs.Stage.{task_box, task_count}
 use Rattle.ig_meaning.specs.Stage.{absent_in, appended, files_of_dests, first_absent, input_box, input_count, input_path, task_files, task_refusal, wanted_volume}
 use Rattle.ig_meaning.specs.Copies.{IsCopy}
+use Rattle.ig_meaning.specs.Tasks.{task_refusal-copy}
 use Rattle.ig_space.specs.CellBoxes.{chunks-IsGrid}
 use Rattle.ig_meaning.specs.TaskBoxes.{task_box-within, task_box-within_dest}
 
@@ -103,8 +104,8 @@ refused-either s k given r (inr damaged) =
     record { at = stands.at; below = stands.below; none = fault-no_labels s.source (input_box s k stands.at) _ fault.0 stands.is }
 
 -- a task refuses for an input that gives no label
-pub refused-bad : (s : Stage) (k : ℕ) (given : List ℕ → Option (List ℕ)) (r : Refusal) → task_refusal s k given ≡ Some r → IsBadInput s k given
-refused-bad s k given r is = refused-either s k given r (or_else-some (first_absent s k given) _ r is)
+pub refused-bad : (s : Stage) → s.kind ≡ Xfer → (k : ℕ) (given : List ℕ → Option (List ℕ)) (r : Refusal) → task_refusal s k given ≡ Some r → IsBadInput s k given
+refused-bad s copies k given r is = refused-either s k given r (or_else-some (first_absent s k given) _ r (sym (task_refusal-copy s copies k given) ∙ is))
 
 -- ---- a voxel in the box of such an input and in the task's box
 label-none : (place : Place) (files : List ℕ → Option (List ℕ)) (x y z : ℕ) (c chunk : Box3) → c ≡ chunk → label_in place.geometry chunk (files (chunk_path place.dir chunk)) x y z ≡ None
@@ -133,7 +134,7 @@ refused-none s dest info c k below given r refused =
     let box = task_box s k in
     let grid = chunks-IsGrid s.source.geometry c.source_fits in
     let within = task_box-within s dest info c k below in
-    let bad = refused-bad s k given r refused in
+    let bad = refused-bad s c.kind k given r refused in
     let m = hull-meets g box grid within bad.at bad.below in
     let unlabelled = volume_at-none given s.source (input_box s k bad.at) m.x m.y m.z (met-cell g box grid within bad.at bad.below m) (bad.none m.x m.y m.z) in
     let wanted = wanted_volume s.kind (volume_at given s.source) in

@@ -15,7 +15,7 @@ use Rattle.ig_layer.specs.Layer.{volume_at}
 use Rattle.ig_layer.specs.Listed.{IsListed, all_listed-each, all_listed-from, all_listed-has}
 use Rattle.ig_layer.specs.SameVolume.{FindsSame, volume_at-same}
 use Rattle.ig_layer.specs.Texts.{chunk_file, files_in, layer_files}
-use Rattle.ig_meaning.specs.Copies.{IsCopy}
+use Rattle.ig_meaning.specs.Copies.{IsCopy, IsElsewhere}
 use Rattle.ig_meaning.specs.Made.{IsMadeBy, Left, MakesNoSource, run_tasks-left, task_files-layer, wanted_files-layer}
 use Rattle.ig_meaning.specs.TaskBoxes.{space_of-dest, task_box-within_dest, task_grid-IsGrid}
 use Rattle.ig_record.specs.declared.stage.Stage.{Stage}
@@ -27,7 +27,7 @@ use Rattle.ig_meaning.specs.Stage.{info_files, sequential, wanted_files, wanted_
 abbrev pub wanted_of : Stage → Files → ℕ → ℕ → ℕ → Option ℕ
 wanted_of s files = wanted_volume s.kind (volume_at (file_at files) s.source)
 
-module _ (s : Stage) (dest : Place) (info : InfoFile) (copy : IsCopy s dest info) where
+module _ (s : Stage) (dest : Place) (info : InfoFile) (copy : IsCopy s dest info) (elsewhere : IsElsewhere s dest info) where
   -- ---- what they make
   -- a task makes files of chunks of the layer
   pub task-chunks : (files : Files) (f : File) → IsMadeBy s files (task_count s) f → IsChunkFile dest (wanted_of s files) f
@@ -37,7 +37,7 @@ module _ (s : Stage) (dest : Place) (info : InfoFile) (copy : IsCopy s dest info
 
   -- and so none of the source
   pub task-no_source : (files : Files) → MakesNoSource s files (task_count s)
-  task-no_source files f m b box = chunk_files-apart dest copy.dest_fits (wanted_of s files) s.source.dir copy.apart b box f (task-chunks files f m)
+  task-no_source files f m b box = chunk_files-apart dest copy.dest_fits (wanted_of s files) s.source.dir elsewhere.apart b box f (task-chunks files f m)
 
   -- what they leave
   pub sequential-left : (files after : Files) → sequential s files ≡ Some after → Left s files (task_count s) after
@@ -101,18 +101,18 @@ module _ (s : Stage) (dest : Place) (info : InfoFile) (copy : IsCopy s dest info
   info-same files b box =
       let path = chunk_path s.source.dir b in
       sym (ap (λ (i : Option InfoFile). file_at (put_all files (info_files i)) path) copy.has_info
-      ∙ file_at-other files path info.path info.text (λ e. copy.info_apart b box (sym e)))
+      ∙ file_at-other files path info.path info.text (λ e. elsewhere.info_apart b box (sym e)))
 
 -- The tasks of a copy, run one after the other once its info was put, leave exactly the wanted files of the whole layer.
-pub sequential-wanted : (s : Stage) (dest : Place) (info : InfoFile) → IsCopy s dest info → (files after : Files)
+pub sequential-wanted : (s : Stage) (dest : Place) (info : InfoFile) → IsCopy s dest info → IsElsewhere s dest info → (files after : Files)
     → sequential s (put_all files (info_files s.info)) ≡ Some after
     → (outputs : List File) × (wanted_files s (file_at files) ≡ Some outputs) × (put_all files (info_files s.info ++ outputs) ≡ after)
-sequential-wanted s dest info copy files after ran =
+sequential-wanted s dest info copy elsewhere files after ran =
     let begun = put_all files (info_files s.info) in
-    let left = sequential-left s dest info copy begun after ran in
-    let defined = sequential-defined s dest info copy begun after left in
+    let left = sequential-left s dest info copy elsewhere begun after ran in
+    let defined = sequential-defined s dest info copy elsewhere begun after left in
     let same : volume_at (file_at files) s.source ≡ volume_at (file_at begun) s.source
-    = volume_at-same (file_at files) (file_at begun) s.source copy.source_fits (info-same s dest info copy files) in
+    = volume_at-same (file_at files) (file_at begun) s.source copy.source_fits (info-same s dest info copy elsewhere files) in
     let wanted : wanted_files s (file_at files) ≡ Some defined.0
     = wanted_files-layer s dest copy.dests (file_at files) ∙ ap (λ (volume : ℕ → ℕ → ℕ → Option ℕ). layer_files dest (wanted_volume s.kind volume)) same ∙ defined.1 in
-    (defined.0, wanted, put_all-append files (info_files s.info) defined.0 ∙ sequential-puts s dest info copy begun after left defined.0 defined.1)
+    (defined.0, wanted, put_all-append files (info_files s.info) defined.0 ∙ sequential-puts s dest info copy elsewhere begun after left defined.0 defined.1)

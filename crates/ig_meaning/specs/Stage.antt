@@ -78,9 +78,17 @@ absent_in path (Some bytes) = None
 abbrev pub first_absent : Stage → ℕ → (List ℕ → Option (List ℕ)) → Option Refusal
 first_absent s k given = first_of (λ i. absent_in (input_path s k i) (given (input_path s k i))) (input_count s k)
 
--- the refusal of a task: the first input that is absent, else the first that is damaged
+-- of a task that reads chunks: the first input that is absent, else the first that is damaged
+abbrev pub chunks_refusal : Stage → ℕ → (List ℕ → Option (List ℕ)) → Option Refusal
+chunks_refusal s k given = or_else (first_absent s k given) (option_map refusal_of (first_fault s.source (task_box s k) given))
+
+-- by the kind; the kinds that are not listed read nothing, and refuse nothing
+abbrev pub refusal_by : Kind → Stage → ℕ → (List ℕ → Option (List ℕ)) → Option Refusal
+refusal_by Xfer s k given = chunks_refusal s k given
+refusal_by kind s k given = None
+
 abbrev pub task_refusal : Stage → ℕ → (List ℕ → Option (List ℕ)) → Option Refusal
-task_refusal s k given = or_else (first_absent s k given) (option_map refusal_of (first_fault s.source (task_box s k) given))
+task_refusal s k given = refusal_by s.kind s k given
 
 -- ---- the sequential run: each task in order, on the files as they are then
 -- the files that stand after it, where no task refused, and what was put so far

@@ -1,13 +1,14 @@
 -- Laws on the boxes of the tasks of a copy: they lie in both layers, have whole chunks of the new one, and few voxels.
-use Rattle.std.specs.Prelude.{◌≡◌, ℕ, zero, suc, ◌==◌, ◌+◌, ◌-◌, ◌*◌, ◌/◌, ◌%◌, ◌^◌, ◌<◌, ◌≤◌, Bool, true, false, if◌then◌else◌, List, [], ◌∷◌, Option, None, Some, option_map}
+use Rattle.std.specs.Prelude.{◌≡◌, ℕ, zero, suc, ◌==◌, ◌+◌, ◌-◌, ◌*◌, ◌/◌, ◌%◌, ◌^◌, ◌<◌, ◌≤◌, Bool, true, false, if◌then◌else◌, [], ◌∷◌, Option, None, Some, option_map}
 use Rattle.std.proofs.Common.{arith, ap, sym, ◌∙◌, refl, ◌⊎◌, inl, inr, subst}
 use Rattle.std.proofs.Math.Nat.{div-add-mod', div-lt_iff_lt-mul, mul-le-mul_right, mul-le-mul, mul-div_cancel}
 use Rattle.std.proofs.lemmas.Bool.{cases_lt, eqb-true, leb-true}
 use Rattle.ig_space.specs.declared.point.Point.{Point}
 use Rattle.ig_space.specs.declared.point.Box3.{Box3}
+use Rattle.ig_space.specs.declared.geometry.Geometry.{Geometry}
 use Rattle.ig_space.specs.declared.geometry.Grid.{Grid}
 use Rattle.ig_space.specs.declared.place.Place.{Place}
-use Rattle.ig_space.specs.Geometry.{count}
+use Rattle.ig_space.specs.Geometry.{count, geometry_fits}
 use Rattle.ig_space.specs.Grid.{IsGrid, IsWithin, cell_of, chunks_of, counts, high_along, hull, index_along, low_along, point_at, size_of, space_of}
 use Rattle.ig_space.specs.Cells.{cell-within}
 use Rattle.ig_space.specs.CellBoxes.{chunks-IsGrid}
@@ -16,20 +17,20 @@ use Rattle.ig_layer.specs.Faults.{or_else}
 use Rattle.ig_meaning.specs.Refusal.{ShapeUnfit}
 use Rattle.ig_record.specs.declared.stage.Stage.{Stage}
 use Rattle.ig_record.specs.declared.stage.Kind.{Kind}
-use Rattle.ig_record.specs.declared.stage.Kind.TheVariants.{Xfer}
 use Rattle.ig_record.specs.declared.stage.InfoFile.{InfoFile}
 use Rattle.ig_record.specs.Stage.{greatest, hull_voxels, most_tasks, most_voxels, shape_unit, task_box, task_count, task_grid, unfit_axis}
 use Rattle.ig_meaning.specs.Stage.{too_large_task, too_many_tasks, unfit_shape}
 use Rattle.ig_meaning.specs.Copies.{IsCopy}
 
 -- ---- the grids
-pub task_grid-IsGrid : (s : Stage) (dest : Place) (info : InfoFile) → IsCopy s dest info → IsGrid (task_grid s)
-task_grid-IsGrid s dest info c =
-    let whole = chunks-IsGrid s.source.geometry c.source_fits in
+-- the tasks of a source that fits cut it by a shape with sides
+pub tasks-IsGrid : (s : Stage) → geometry_fits s.source.geometry ≡ true → 1 ≤ s.shape.x → 1 ≤ s.shape.y → 1 ≤ s.shape.z → IsGrid (task_grid s)
+tasks-IsGrid s fits x y z =
+    let whole = chunks-IsGrid s.source.geometry fits in
     record {
-      x_step = c.shape.0;
-      y_step = c.shape.1;
-      z_step = c.shape.2;
+      x_step = x;
+      y_step = y;
+      z_step = z;
       x_order = whole.x_order;
       y_order = whole.y_order;
       z_order = whole.z_order;
@@ -37,6 +38,9 @@ task_grid-IsGrid s dest info c =
       y_small = whole.y_small;
       z_small = whole.z_small;
     }
+
+pub task_grid-IsGrid : (s : Stage) (dest : Place) (info : InfoFile) → IsCopy s dest info → IsGrid (task_grid s)
+task_grid-IsGrid s dest info c = tasks-IsGrid s c.source_fits c.shape.0 c.shape.1 c.shape.2
 
 -- both layers have one space
 pub space_of-dest : (s : Stage) (dest : Place) (info : InfoFile) → IsCopy s dest info → space_of s.source.geometry ≡ space_of dest.geometry
@@ -73,12 +77,12 @@ if_allowed true x none = refl
 if_allowed false x none = absurd (cc)
 
 -- each side of the shape is a multiple of the chunk's
-record IsWhole (unit shape : Point) : Type 0 where
-  x : shape.x % unit.x ≡ 0
-  y : shape.y % unit.y ≡ 0
-  z : shape.z % unit.z ≡ 0
+pub record IsWhole (unit shape : Point) : Type 0 where
+  pub x : shape.x % unit.x ≡ 0
+  pub y : shape.y % unit.y ≡ 0
+  pub z : shape.z % unit.z ≡ 0
 
-unfit_axis-none : (unit shape : Point) → unfit_axis unit shape ≡ None → IsWhole unit shape
+pub unfit_axis-none : (unit shape : Point) → unfit_axis unit shape ≡ None → IsWhole unit shape
 unfit_axis-none unit shape none =
     let all = all_whole (shape.x % unit.x == 0) (shape.y % unit.y == 0) (shape.z % unit.z == 0) none in
     record { x = eqb-true _ _ all.0; y = eqb-true _ _ all.1; z = eqb-true _ _ all.2 }
@@ -148,15 +152,19 @@ cell-aligned space step shape i whole grid within =
     let hz = aligned-high space.lo.z space.hi.z step.z shape.z a.lo.z i.z whole.z (part-z g a grid within) in
     λ j. record { lo = record { x = lx j; y = ly j; z = lz j }; hi = record { x = hx j; y = hy j; z = hz j } }
 
+-- where the shape is of whole chunks of a scale of the source's space, each task's box is made of such chunks
+pub task_box-whole : (s : Stage) (g : Geometry) → IsGrid (task_grid s) → geometry_fits g ≡ true → space_of g ≡ space_of s.source.geometry → IsWhole g.chunk s.shape → (k : ℕ) → k < task_count s
+    → (hull (chunks_of g) (task_box s k)).space ≡ task_box s k
+task_box-whole s g tasks fits same whole k below =
+    let grid = subst (λ space. IsGrid (record { space = space; step = g.chunk })) same (chunks-IsGrid g fits) in
+    let aligned = cell-aligned (space_of s.source.geometry) g.chunk s.shape (point_at (counts (task_grid s)) k) whole grid (cell-within (task_grid s) tasks k below) in
+    subst (λ space. (hull (record { space = space; step = g.chunk }) (task_box s k)).space ≡ task_box s k) (sym same) aligned
+
 -- a task's box is made of whole chunks of the new layer
 pub task_box-aligned : (s : Stage) (dest : Place) (info : InfoFile) → IsCopy s dest info → (k : ℕ) → k < task_count s
     → (hull (chunks_of dest.geometry) (task_box s k)).space ≡ task_box s k
 task_box-aligned s dest info c k below =
-    let same = space_of-dest s dest info c in
-    let step = dest.geometry.chunk in
-    let grid = subst (λ space. IsGrid (record { space = space; step = step })) (sym same) (chunks-IsGrid dest.geometry c.dest_fits) in
-    let aligned = cell-aligned (space_of s.source.geometry) step s.shape (point_at (counts (task_grid s)) k) (shape-whole s dest info c) grid (task_box-within s dest info c k below) in
-    subst (λ space. (hull (record { space = space; step = step }) (task_box s k)).space ≡ task_box s k) same aligned
+    task_box-whole s dest.geometry (task_grid-IsGrid s dest info c) c.dest_fits (sym (space_of-dest s dest info c)) (shape-whole s dest info c) k below
 
 -- ---- few voxels
 size-few : (a b : Box3) → IsWithin a b → count (size_of a) ≤ count (size_of b)

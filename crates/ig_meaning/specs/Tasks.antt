@@ -16,7 +16,7 @@ use Rattle.ig_record.specs.declared.stage.Stage.{Stage}
 use Rattle.ig_record.specs.declared.stage.Kind.{Kind}
 use Rattle.ig_record.specs.declared.stage.Kind.TheVariants.{Xfer}
 use Rattle.ig_record.specs.Stage.{inputs_by, inputs_of, task_box}
-use Rattle.ig_meaning.specs.Stage.{Ran, absent_in, first_absent, input_box, input_count, input_path, run_task, run_tasks, task_files, task_refusal, with_task}
+use Rattle.ig_meaning.specs.Stage.{Ran, absent_in, chunks_refusal, first_absent, input_box, input_count, input_path, refusal_by, run_task, run_tasks, task_files, task_refusal, with_task}
 use Rattle.ig_meaning.specs.Fault.{Find, begin_with, fault_of_tasks, finds_in, found_among}
 
 -- ---- what a task answers depends on its inputs alone
@@ -35,11 +35,17 @@ pub first_fault-agrees : (s : Stage) (k : ℕ) (given other : List ℕ → Optio
 first_fault-agrees s k given other same =
     first_of-agrees _ _ (input_count s k) (λ i below. ap (fault_in s.source (input_box s k i)) (same i below))
 
-pub task_refusal-agrees : (s : Stage) (k : ℕ) (given other : List ℕ → Option (List ℕ))
+-- the refusal of a copy's task
+pub task_refusal-copy : (s : Stage) → s.kind ≡ Xfer → (k : ℕ) (given : List ℕ → Option (List ℕ)) → task_refusal s k given ≡ chunks_refusal s k given
+task_refusal-copy s copies k given = ap (λ (kind : Kind). refusal_by kind s k given) copies
+
+pub task_refusal-agrees : (s : Stage) → s.kind ≡ Xfer → (k : ℕ) (given other : List ℕ → Option (List ℕ))
     → ((i : ℕ) → i < input_count s k → given (input_path s k i) ≡ other (input_path s k i)) → task_refusal s k given ≡ task_refusal s k other
-task_refusal-agrees s k given other same =
-    ap (λ a. or_else a (option_map refusal_of (first_fault s.source (task_box s k) given))) (first_absent-agrees s k given other same)
+task_refusal-agrees s copies k given other same =
+    task_refusal-copy s copies k given
+    ∙ ap (λ a. or_else a (option_map refusal_of (first_fault s.source (task_box s k) given))) (first_absent-agrees s k given other same)
     ∙ ap (λ b. or_else (first_absent s k other) (option_map refusal_of b)) (first_fault-agrees s k given other same)
+    ∙ sym (task_refusal-copy s copies k other)
 
 -- ---- finds of the paths, in order
 bytes_eq-self : (text : List ℕ) → bytes_eq text text ≡ true
@@ -117,7 +123,7 @@ found_among-input s copies k given i below =
 pub task_refusal-finds : (s : Stage) → s.kind ≡ Xfer → (k : ℕ) (given : List ℕ → Option (List ℕ)) (rest : List Find)
     → task_refusal s k (found_among (take (length (inputs_of s k)) (finds_in given (inputs_of s k) ++ rest))) ≡ task_refusal s k given
 task_refusal-finds s copies k given rest =
-    rw (take-finds given (inputs_of s k) rest) (task_refusal-agrees s k (found_among (finds_in given (inputs_of s k))) given (found_among-input s copies k given))
+    rw (take-finds given (inputs_of s k) rest) (task_refusal-agrees s copies k (found_among (finds_in given (inputs_of s k))) given (found_among-input s copies k given))
 
 -- of a task whose inputs were all read
 pub fault_of_tasks-read : (s : Stage) → s.kind ≡ Xfer → (left k : ℕ) (given : List ℕ → Option (List ℕ)) (rest : List Find)
