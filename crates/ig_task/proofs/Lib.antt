@@ -1,0 +1,2 @@
+mod TaskRuns
+mod WantedOutputs

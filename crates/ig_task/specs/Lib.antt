@@ -1,0 +1,17 @@
+pub mod Facts
+pub mod Lists
+pub mod ChunkPlaces
+pub mod Tiles
+pub mod Lasting
+pub mod OwnedPaths
+pub mod Pipeline
+pub mod Outputs
+pub mod Wanted
+pub mod WantedTexts
+pub mod MadeFiles
+pub mod Kinds
+pub mod Answers
+pub mod Maker
+pub mod MakerLaws
+pub mod Rooms
+pub mod NewRecords

@@ -1,0 +1,21 @@
+-- Outputs that are as the stage wants them.
+use Rattle.std.specs.Prelude.{◌≡◌, ℕ, true, false, List, None, Some, is_some, map}
+use Rattle.std.specs.List.{All}
+use Rattle.ig_layer.specs.Layer.{Reading}
+use Rattle.ig_record.specs.declared.stage.Stage.{Stage}
+use Rattle.ig_record.specs.Stage.{paths_of, removed_dir}
+use Rattle.ig_cutout.specs.declared.types.Output.{Output}
+use Rattle.ig_task.specs.Facts.{wanted_text}
+use Rattle.ig_task.specs.Outputs.{path_of}
+
+-- its text is the one that is wanted at its path
+pub record HasWantedText (s : Stage) (files : Reading) (output : Output) : Type 0 where
+  pub bytes : List ℕ
+  pub text : output.text ≡ Some bytes
+  pub wanted : wanted_text s files output.path ≡ Some bytes
+
+-- The outputs of task k: at each of its paths, in order, the wanted text; of a removal, nothing.
+pub record AreWanted (s : Stage) (k : ℕ) (files : Reading) (outputs : List Output) : Type 0 where
+  pub paths : map path_of outputs ≡ paths_of s k
+  pub made : is_some (removed_dir s) ≡ false → All (HasWantedText s files) outputs
+  pub gone : is_some (removed_dir s) ≡ true → All (λ (output : Output). output.text ≡ None) outputs

@@ -1,0 +1,22 @@
+//! The laws of the kinds of stage. Each function has no code: its contract is a law.
+ghost use Rattle.std.specs.Prelude.{◌≡◌, ◌<◌, ℕ, List, Some, true};
+ghost use Rattle.ig_layer.specs.Layer.{Reading};
+ghost use Rattle.ig_record.specs.declared.stage.Stage.{Stage};
+ghost use Rattle.ig_record.specs.Sound.{is_sound};
+ghost use Rattle.ig_record.specs.Stage.{task_count};
+ghost use Rattle.ig_cutout.specs.declared.types.Output.{Output};
+ghost use Rattle.ig_rule.specs.Facts.{KindLaws};
+ghost use Rattle.ig_task.specs.Facts.{stage_reader};
+ghost use Rattle.ig_task.specs.Outputs.{task_outputs};
+ghost use Rattle.ig_task.specs.Wanted.{AreWanted};
+
+/// Each kind of stage keeps what the laws of the rule rest on.
+pub fn kinds_keep_their_laws()
+    ensures { KindLaws stage_reader }
+{}
+
+/// What a task of a sound stage makes of its inputs in any files is what the stage wants of the whole volume in these
+/// files, at each of the task's paths.
+pub fn outputs_are_wanted()
+    ensures { (s : Stage) → is_sound s ≡ true → (k : ℕ) → k < task_count s → (files : Reading) (outputs : List Output) → task_outputs s k files ≡ Some outputs → AreWanted s k files outputs }
+{}

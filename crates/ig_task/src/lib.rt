@@ -1,0 +1,17 @@
+//! The rule of a queue for the kinds of stage that there are, and what a task makes of its inputs. It gives each kind's facts
+//! to the rule (`ig_rule`), shows that they keep what the laws of the rule rest on, and runs a task over what was found of
+//! its inputs: the texts that it makes are those that are wanted, defined from the whole volume.
+#![tactic(auto)]
+
+mod error;
+mod laws;
+mod pipeline;
+mod running;
+#[cfg(test)]
+mod tests;
+
+pub use error::RunError;
+pub use ig_rule::Role;
+pub use laws::{kinds_keep_their_laws, outputs_are_wanted};
+pub use pipeline::Pipeline;
+pub use running::run;

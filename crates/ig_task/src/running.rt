@@ -1,0 +1,88 @@
+//! What a task makes of what was found of its inputs. Nothing is read or put here.
+ghost use Rattle.std.specs.Prelude.{◌≡◌, ◌<◌, [], ◌∷◌, IfOk, IfErr, map, option_map, true};
+ghost use Rattle.ig_layer.specs.Layer.{Reading};
+ghost use Rattle.ig_record.specs.declared.stage.Kind.TheVariants.{Xfer};
+ghost use Rattle.ig_record.specs.Sound.{is_sound};
+ghost use Rattle.ig_record.specs.Stage.{inputs_of, paths_of, task_count};
+ghost use Rattle.ig_meaning.specs.Stage.{task_refusal};
+ghost use Rattle.ig_cutout.specs.Inputs.{HoldsAll, paths_of as input_paths};
+ghost use Rattle.ig_task.specs.Answers.{missing_path, MakesOutputs, RefusesTask};
+ghost use Rattle.ig_task.specs.Outputs.{removal_of};
+ghost use Rattle.ig_task.specs.Wanted.{AreWanted};
+
+use crate::RunError;
+use ig_cutout::{Inputs, Output, Outputs, assemble, cut_chunks};
+use ig_record::{Kind, Stage, paths};
+use ig_space::{Path, Place, TryClone};
+use std::alloc::{AllocError, Global};
+
+/// The path of the first input that was not found.
+fn absent(inputs: &Inputs) -> Option<&Path>
+    ensures { option_map (λ path. path.now) result ≡ missing_path inputs.now }
+{
+    for input in inputs.as_slice() {
+        if input.found.is_none() {
+            return Some(&input.path);
+        }
+    }
+    None
+}
+
+/// The scale that a copy writes.
+fn dest(stage: &Stage) -> &Place
+    requires sound { is_sound stage.now ≡ true }
+    requires copies { stage.now.kind ≡ Xfer }
+    ensures { stage.now.dests ≡ result.now ∷ [] }
+{
+    &stage.dests.as_slice()[0]
+}
+
+/// The chunks of the copy, from the labels of the task's box.
+fn copy(alloc: Global, stage: &Stage, task: u32, given: &Inputs) -> Result<Outputs, RunError>
+    requires sound { is_sound stage.now ≡ true }
+    requires copies { stage.now.kind ≡ Xfer }
+    requires below { task < task_count stage.now }
+    requires paths { input_paths given.now ≡ inputs_of stage.now task }
+    ensures made { IfOk result (λ outputs. (files : Reading) → HoldsAll files given.now → MakesOutputs stage.now task files outputs) }
+    ensures refused { IfErr result (λ e. (files : Reading) → HoldsAll files given.now → RefusesTask e (task_refusal stage.now task files)) }
+{
+    if let Some(path) = absent(given) {
+        return Err(RunError::Missing { path: path.copy()? });
+    }
+    let area = stage.task_box(task);
+    let volume = assemble(alloc, &stage.source, area, given)?;
+    let outputs = cut_chunks(alloc, dest(stage), area, &volume)?;
+    Ok(outputs)
+}
+
+/// The chunks that a removal takes away.
+fn removals(alloc: Global, stage: &Stage, task: u32) -> Result<Outputs, AllocError>
+    requires sound { is_sound stage.now ≡ true }
+    requires below { task < task_count stage.now }
+    ensures { IfOk result (λ outputs. outputs ≡ map removal_of (paths_of stage.now task)) }
+{
+    let mut outputs = Outputs::new(alloc);
+    for path in paths(alloc, stage, task)?.as_slice() {
+        outputs.push(Output {
+            path: path.copy()?,
+            text: None,
+        })?;
+    }
+    Ok(outputs)
+}
+
+/// What a task makes of what was found of its inputs, in the order of its paths: files, and of a removal what is taken
+/// away. `Missing` is the first input that was not found; else `Malformed` is the first that is no text of its chunk.
+pub fn run(alloc: Global, stage: &Stage, task: u32, given: &Inputs) -> Result<Outputs, RunError>
+    requires sound { is_sound stage.now ≡ true }
+    requires below { task < task_count stage.now }
+    requires paths { input_paths given.now ≡ inputs_of stage.now task }
+    ensures made { IfOk result (λ outputs. (files : Reading) → HoldsAll files given.now → MakesOutputs stage.now task files outputs) }
+    ensures wanted { IfOk result (λ outputs. (files : Reading) → HoldsAll files given.now → AreWanted stage.now task files outputs) }
+    ensures refused { IfErr result (λ e. (files : Reading) → HoldsAll files given.now → RefusesTask e (task_refusal stage.now task files)) }
+{
+    match stage.kind {
+        Kind::Xfer => copy(alloc, stage, task, given),
+        _ => Ok(removals(alloc, stage, task)?),
+    }
+}
