@@ -1,0 +1,233 @@
+-- Each end of a run of a copy.
+use Rattle.std.proofs.Common.{arith, ◌≡◌, ◌<◌, ◌≤◌, ◌+◌, ◌-◌, ℕ, zero, suc, List, [], ◌∷◌, ◌++◌, length, take, drop, None, Some, Result, Err, refl, sym, ap, subst, ◌∙◌}
+use Rattle.std.proofs.lemmas.List.{append-nil, append_assoc, take-append-drop, length-take}
+use Rattle.ig_space.specs.declared.place.Place.{Place}
+use Rattle.ig_space.specs.CellBoxes.{chunks-IsGrid}
+use Rattle.ig_space.specs.Cells.{low-in_cell, number_at-below}
+use Rattle.ig_space.specs.Grid.{chunks_of, hull}
+use Rattle.ig_space.specs.Hulls.{hull-IsGrid, hull-holds}
+use Rattle.ig_defs.specs.declared.step.Act.{Act}
+use Rattle.ig_defs.specs.declared.step.Act.TheVariants as act
+use Rattle.ig_defs.specs.Files.{Files, file_at}
+use Rattle.ig_defs.specs.Log.{Log, files_of}
+use Rattle.ig_defs.specs.Own.{File, put_all, puts_of}
+use Rattle.ig_meaning.specs.Copies.{IsCopy, IsElsewhere}
+use Rattle.ig_meaning.specs.Ending.{AreFirst, Ending, Finished, Refuses, StoreFailed, NoMemory}
+use Rattle.ig_meaning.specs.Fault.{fault_of_run, fault_of_tasks, finds_in, finds_of}
+use Rattle.ig_meaning.specs.Refusal.{Refusal}
+use Rattle.ig_meaning.specs.RefusedTasks.{refused-none}
+use Rattle.ig_meaning.specs.Sequential.{sequential-wanted}
+use Rattle.ig_record.specs.declared.stage.Stage.{Stage}
+use Rattle.ig_record.specs.declared.stage.InfoFile.{InfoFile}
+use Rattle.ig_record.specs.Stage.{inputs_of, task_box, task_count, task_grid}
+use Rattle.ig_meaning.specs.Stage.{file_of, info_files, input_count, input_path, planned_puts, run_tasks}
+use Rattle.ig_meaning.specs.TaskBoxes.{task_box-within, task_grid-IsGrid}
+use Rattle.ig_meaning.specs.Tasks.{fault_of_tasks-goes_on, fault_of_tasks-refuses, fault_of_tasks-unread, files-stop, inputs_of-copy, length-listed, puts-grow, puts-stop, run_tasks-next, run_tasks-refuses}
+use Rattle.ig_stage.specs.Did.{Did, not_made, was_made, after_all, moments_from}
+use Rattle.ig_stage.specs.Running.{FailsTask, FailsToPut, PutsOfTask, Runs, RunsSome, in_reading, in_putting, while_reading, while_putting, ending_of, ending_of_local, puts_all, reads_all}
+use Rattle.ig_stage.specs.declared.error.LocalError.{LocalError}
+use Rattle.ig_stage.proofs.InputReads.{after-reads}
+use Rattle.ig_stage.proofs.RunMoments.{finds_of-reads, puts_of-reads}
+use Rattle.ig_stage.proofs.RunSteps.{after-task, all_did, all_files, all_finds, all_puts, finds_of-task, puts_of-task}
+
+take-all : {A : Type 0} (xs more : List A) → take (length xs) (xs ++ more) ≡ xs
+take-all [] more = refl
+take-all (x ∷ xs) more = ap (λ rest. x ∷ rest) (take-all xs more)
+
+few_of : {A : Type 0} (xs : List A) (n : ℕ) → n < length xs → length (take n xs) < length xs
+few_of xs n fewer = let long = length-take n xs in omega (arith, long, fewer)
+
+-- some first ones, where more follow
+first_of-more : {A : Type 0} (xs more all : List A) → all ≡ xs ++ more → AreFirst xs all
+first_of-more xs more all is = record { number = length xs; are = sym (ap (take (length xs)) is ∙ take-all xs more) }
+
+module _ (s : Stage) (dest : Place) (info : InfoFile) (copy : IsCopy s dest info) where
+  -- each task has an input
+  inputs-some : (k : ℕ) → k < task_count s → 0 < length (inputs_of s k)
+  inputs-some k below =
+      let g = chunks_of s.source.geometry in
+      let grid = chunks-IsGrid s.source.geometry copy.source_fits in
+      let box = task_box s k in
+      let within = task_box-within s dest info copy k below in
+      let inside = hull-holds g box grid within _ _ _ (low-in_cell (task_grid s) (task_grid-IsGrid s dest info copy) k below) in
+      let lower = number_at-below (hull g box) (hull-IsGrid g box grid within) _ _ _ inside in
+      subst (λ n. 0 < n) (sym (ap length (inputs_of-copy s copy.kind k) ∙ length-listed (input_path s k) (input_count s k))) (omega (arith, lower))
+
+  -- where nothing more was read there is no refusal
+  no_more : (left k : ℕ) → left + k ≤ task_count s → fault_of_tasks s left k [] ≡ None
+  no_more zero k few = refl
+  no_more (suc left) k few = fault_of_tasks-unread s (suc left) k (λ path. None) [] (inputs-some k (omega (arith, few)))
+
+  module _ (old : Log) where
+    begun : Files
+    begun = put_all (files_of old) (info_files s.info)
+
+    -- the plan begins with what the first tasks put
+    plan_goes_on : (n : ℕ) → n ≤ task_count s → (rest : List File) × (planned_puts s (files_of old) ≡ (info_files s.info ++ (run_tasks s begun n).puts) ++ rest)
+    unfolding begun
+    plan_goes_on n few =
+        let p = puts-grow s begun n (task_count s) few in
+        (p.0, ap (λ puts. info_files s.info ++ puts) p.1 ∙ sym (append_assoc (info_files s.info) (run_tasks s begun n).puts p.0))
+
+    no_memory : (new : Log) (acts : List Act) → Did old new acts → after_all (files_of old) acts ≡ put_all (files_of old) (puts_of (moments_from (files_of old) acts))
+        → AreFirst (puts_of (moments_from (files_of old) acts)) (planned_puts s (files_of old)) → Runs s old new NoMemory
+    no_memory new acts did files first = record { acts = acts; did = did; files = files; run = record { fault = tt; puts = first; reads = tt; wanted = tt; refused = tt; sequential = tt } }
+
+    store_failed : (new : Log) (acts : List Act) → Did old new acts → after_all (files_of old) acts ≡ put_all (files_of old) (puts_of (moments_from (files_of old) acts))
+        → fault_of_run s (moments_from (files_of old) acts) ≡ None → AreFirst (puts_of (moments_from (files_of old) acts)) (planned_puts s (files_of old)) → Runs s old new StoreFailed
+    store_failed new acts did files none first = record { acts = acts; did = did; files = files; run = record { fault = none; puts = first; reads = tt; wanted = tt; refused = tt; sequential = tt } }
+
+    idle : fault_of_tasks s (task_count s) 0 [] ≡ None
+    idle = no_more (task_count s) 0 (omega arith)
+
+    one_info : planned_puts s (files_of old) ≡ file_of info ∷ (run_tasks s begun (task_count s)).puts
+    unfolding begun
+    one_info = ap (λ i. info_files i ++ (run_tasks s (put_all (files_of old) (info_files s.info)) (task_count s)).puts) copy.has_info
+
+    -- the info was not put
+    pub info_failed : (new : Log) (e : Ending) → FailsToPut old new info.path info.text e → Runs s old new e
+    info_failed new StoreFailed (not_made did) = store_failed new [] did refl idle (first_of-more [] (planned_puts s (files_of old)) (planned_puts s (files_of old)) refl)
+    info_failed new StoreFailed (was_made did) =
+        store_failed new (act.Put info.path info.text ∷ []) did refl idle (first_of-more (file_of info ∷ []) (run_tasks s begun (task_count s)).puts (planned_puts s (files_of old)) one_info)
+    info_failed new NoMemory did = no_memory new [] did refl (first_of-more [] (planned_puts s (files_of old)) (planned_puts s (files_of old)) refl)
+    info_failed new (Refuses r) fails = absurd fails
+    info_failed new Finished fails = absurd fails
+
+    -- all tasks were run
+    pub all_done : IsElsewhere s dest info → (new : Log) → RunsSome s old new (task_count s) → Runs s old new Finished
+    all_done elsewhere new so =
+        let w = sequential-wanted s dest info copy elsewhere (files_of old) (files_of new) so.now in
+        let left_them = so.did.files ∙ so.files in
+        let none : task_count s - task_count s ≡ 0 = omega arith in record {
+          acts = so.acts;
+          did = so.did;
+          files = so.files;
+          run = record {
+            fault = ap (fault_of_tasks s (task_count s) 0) (sym (append-nil (finds_of (moments_from (files_of old) so.acts)))) ∙ so.fault []
+                ∙ ap (λ m. fault_of_tasks s m (task_count s) []) none;
+            puts = so.puts;
+            reads = so.reads;
+            wanted = record { outputs = w.0; wanted = w.1; put = sym left_them ∙ sym w.2 };
+            refused = tt;
+            sequential = so.now ∙ ap Some left_them;
+          };
+        }
+
+    module _ (mid : Log) (n : ℕ) (below : n < task_count s) (so : RunsSome s old mid n) where
+      -- ---- some inputs were read, and nothing was put
+      read_files : (new : Log) (paths : List (List ℕ)) (did : Did mid new (reads_all paths))
+          → after_all (files_of old) (so.acts ++ reads_all paths) ≡ put_all (files_of old) (puts_of (moments_from (files_of old) (so.acts ++ reads_all paths)))
+      read_files new paths did = all_files s old mid new n below so (reads_all paths) did [] (puts_of-reads (files_of mid) paths) (after-reads (files_of mid) paths)
+
+      read_puts : (new : Log) (paths : List (List ℕ)) → Did mid new (reads_all paths)
+          → puts_of (moments_from (files_of old) (so.acts ++ reads_all paths)) ≡ info_files s.info ++ (run_tasks s begun n).puts
+      unfolding begun
+      read_puts new paths did =
+          all_puts s old mid new n below so (reads_all paths) did ∙ ap (λ last. puts_of (moments_from (files_of old) so.acts) ++ last) (puts_of-reads (files_of mid) paths)
+          ∙ append-nil (puts_of (moments_from (files_of old) so.acts)) ∙ so.puts
+
+      read_first : (new : Log) (paths : List (List ℕ)) → Did mid new (reads_all paths)
+          → AreFirst (puts_of (moments_from (files_of old) (so.acts ++ reads_all paths))) (planned_puts s (files_of old))
+      read_first new paths did =
+          let p = plan_goes_on n (omega (arith, below)) in
+          first_of-more (puts_of (moments_from (files_of old) (so.acts ++ reads_all paths))) p.0 (planned_puts s (files_of old)) (p.1 ∙ ap (λ puts. puts ++ p.0) (sym (read_puts new paths did)))
+
+      read_fault : (new : Log) (paths : List (List ℕ)) → Did mid new (reads_all paths)
+          → fault_of_run s (moments_from (files_of old) (so.acts ++ reads_all paths)) ≡ fault_of_tasks s (task_count s - n) n (finds_in (file_at (files_of mid)) paths)
+      read_fault new paths did =
+          ap (fault_of_tasks s (task_count s) 0) (sym (append-nil (finds_of (moments_from (files_of old) (so.acts ++ reads_all paths)))) ∙ all_finds s old mid new n below so (reads_all paths) did []
+          ∙ ap (λ found. finds_of (moments_from (files_of old) so.acts) ++ found) (append-nil (finds_of (moments_from (files_of mid) (reads_all paths))) ∙ finds_of-reads (files_of mid) paths))
+          ∙ so.fault (finds_in (file_at (files_of mid)) paths)
+
+      left : task_count s - n ≡ suc (task_count s - (n + 1))
+      left = omega (arith, below)
+
+      -- the task refused
+      task_refused : (new : Log) (r : Refusal) → FailsTask s n mid new (Refuses r) → Runs s old new (Refuses r)
+      unfolding begun
+      task_refused new r h =
+          let paths = inputs_of s n in
+          let stops = run_tasks-refuses s begun n (files_of mid) so.now (refused-none s dest info copy n below (file_at (files_of mid)) r h.1) in record {
+            acts = so.acts ++ reads_all paths;
+            did = all_did s old mid new n below so (reads_all paths) h.0;
+            files = read_files new paths h.0;
+            run = record {
+              fault = read_fault new paths h.0 ∙ ap (λ m. fault_of_tasks s m n (finds_in (file_at (files_of mid)) paths)) left
+                  ∙ fault_of_tasks-refuses s copy.kind (task_count s - (n + 1)) n (file_at (files_of mid)) r h.1;
+              puts = read_puts new paths h.0
+                  ∙ ap (λ puts. info_files s.info ++ puts) (sym stops.1 ∙ sym (puts-stop s begun (suc n) (task_count s) below stops.0));
+              reads = tt;
+              wanted = tt;
+              refused = files-stop s begun (suc n) (task_count s) below stops.0;
+              sequential = tt;
+            };
+          }
+
+      -- ---- all inputs were read, and some outputs put
+      module _ (new : Log) (outputs : List File) (number : ℕ) (part : PutsOfTask s n mid new outputs number) where
+        put_acts : List Act
+        put_acts = reads_all (inputs_of s n) ++ puts_all (take number outputs)
+
+        put_files : after_all (files_of old) (so.acts ++ put_acts) ≡ put_all (files_of old) (puts_of (moments_from (files_of old) (so.acts ++ put_acts)))
+        unfolding put_acts
+        put_files = all_files s old mid new n below so put_acts part.did (take number outputs) (puts_of-task s n (files_of mid) (take number outputs)) (after-task s n (files_of mid) (take number outputs))
+
+        put_puts : puts_of (moments_from (files_of old) (so.acts ++ put_acts)) ≡ (info_files s.info ++ (run_tasks s begun n).puts) ++ take number outputs
+        unfolding put_acts begun
+        put_puts =
+            all_puts s old mid new n below so put_acts part.did
+            ∙ ap (λ last. puts_of (moments_from (files_of old) so.acts) ++ last) (puts_of-task s n (files_of mid) (take number outputs)) ∙ ap (λ first. first ++ take number outputs) so.puts
+
+        -- the plan goes on with all of the outputs
+        put_plan : (rest : List File) × (planned_puts s (files_of old) ≡ ((info_files s.info ++ (run_tasks s begun n).puts) ++ take number outputs) ++ rest)
+        unfolding begun
+        put_plan =
+            let next = run_tasks-next s begun n (files_of mid) outputs so.now part.made in
+            let p = plan_goes_on (suc n) below in
+            let first = info_files s.info ++ (run_tasks s begun n).puts in (
+              drop number outputs ++ p.0,
+              p.1 ∙ ap (λ puts. (info_files s.info ++ puts) ++ p.0) next.1
+                  ∙ ap (λ puts. puts ++ p.0) (sym (append_assoc (info_files s.info) (run_tasks s begun n).puts outputs))
+                  ∙ ap (λ all. (first ++ all) ++ p.0) (sym (take-append-drop number outputs))
+                  ∙ ap (λ puts. puts ++ p.0) (sym (append_assoc first (take number outputs) (drop number outputs)))
+                  ∙ append_assoc (first ++ take number outputs) (drop number outputs) p.0,
+            )
+
+        put_first : AreFirst (puts_of (moments_from (files_of old) (so.acts ++ put_acts))) (planned_puts s (files_of old))
+        put_first = first_of-more (puts_of (moments_from (files_of old) (so.acts ++ put_acts))) put_plan.0 (planned_puts s (files_of old)) (put_plan.1 ∙ ap (λ puts. puts ++ put_plan.0) (sym put_puts))
+
+        put_fault : fault_of_run s (moments_from (files_of old) (so.acts ++ put_acts)) ≡ None
+        unfolding put_acts
+        put_fault =
+            let finds = finds_in (file_at (files_of mid)) (inputs_of s n) in
+            ap (fault_of_tasks s (task_count s) 0) (sym (append-nil (finds_of (moments_from (files_of old) (so.acts ++ put_acts)))) ∙ all_finds s old mid new n below so put_acts part.did []
+            ∙ ap (λ found. finds_of (moments_from (files_of old) so.acts) ++ (found ++ [])) (finds_of-task s n (files_of mid) (take number outputs)))
+            ∙ so.fault (finds ++ []) ∙ ap (λ m. fault_of_tasks s m n (finds ++ [])) left
+            ∙ fault_of_tasks-goes_on s copy.kind (task_count s - (n + 1)) n (file_at (files_of mid)) [] part.fine
+            ∙ no_more (task_count s - (n + 1)) (n + 1) (omega (arith, below))
+
+        put_did : Did old new (so.acts ++ put_acts)
+        unfolding put_acts
+        put_did = all_did s old mid new n below so put_acts part.did
+
+      -- the task stopped
+      pub task_failed : (new : Log) (e : Ending) → FailsTask s n mid new e → Runs s old new e
+      task_failed new (Refuses r) h = task_refused new r h
+      task_failed new StoreFailed (while_reading h) =
+          let paths = take h.number (inputs_of s n) in
+          store_failed new (so.acts ++ reads_all paths) (all_did s old mid new n below so (reads_all paths) h.did) (read_files new paths h.did)
+          (read_fault new paths h.did ∙ fault_of_tasks-unread s (task_count s - n) n (file_at (files_of mid)) paths (few_of (inputs_of s n) h.number h.fewer))
+          (read_first new paths h.did)
+      task_failed new StoreFailed (while_putting outputs number part) =
+          store_failed new (so.acts ++ put_acts new outputs number part) (put_did new outputs number part) (put_files new outputs number part) (put_fault new outputs number part) (put_first new outputs number part)
+      task_failed new NoMemory (in_reading h) =
+          let paths = take h.number (inputs_of s n) in
+          no_memory new (so.acts ++ reads_all paths) (all_did s old mid new n below so (reads_all paths) h.did) (read_files new paths h.did) (read_first new paths h.did)
+      task_failed new NoMemory (in_putting outputs number part) =
+          no_memory new (so.acts ++ put_acts new outputs number part) (put_did new outputs number part) (put_files new outputs number part) (put_first new outputs number part)
+      task_failed new Finished fails = absurd fails
+
+-- the ending of an error that is passed on
+pub passed_on : {T : Type 0} (s : Stage) (old new : Log) (result : Result T LocalError) (given made : LocalError) → result ≡ Err made → made ≡ given
+    → Runs s old new (ending_of_local given) → Runs s old new (ending_of result)
+passed_on s old new result given made is same runs = subst (λ r. Runs s old new (ending_of r)) (sym is) (subst (λ e. Runs s old new (ending_of_local e)) (sym same) runs)

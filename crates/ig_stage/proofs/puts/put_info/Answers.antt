@@ -1,0 +1,22 @@
+use Rattle.std.proofs.Common.{refl}
+use Rattle.ig_stage.specs.Open.{HasInfo}
+use Rattle.ig_stage.proofs.OpenKept.{info_keeps, info_put}
+use Rattle.ig_stage.proofs.OpenLogs.{put_as, put_leaves, put_stays_open}
+use Rattle.ig_stage.proofs.SomeSteps.{put_some, some_nothing}
+use Rattle.ig_stage.proofs.puts.put_info.Goals as goal
+
+pub returns-in-Some-clause-stays : goal.returns-in-Some-clause-stays
+returns-in-Some-clause-stays g c = λ tells q n m.
+    put_stays_open q n c.args.stage.now _ _ _ c.in-Some.info.path c.in-Some.info.text c.put.result (info_keeps q n c.args.stage.now c.in-Some.info c.in-Some.is)
+    (put_as _ _ _ _ _ c.in-Some.info.path c.in-Some.info.text c.put.result refl c.as_bytes.ensures (c.put.ensures.went tells)) m
+
+pub returns-in-Some-clause-stands : goal.returns-in-Some-clause-stands
+returns-in-Some-clause-stands g c = λ tells.
+    put_leaves _ (HasInfo c.args.stage.now) _ _ c.in-Some.info.path c.in-Some.info.text c.put.result (λ files. info_put c.args.stage.now c.in-Some.info files c.in-Some.is)
+    (put_as _ _ _ _ _ c.in-Some.info.path c.in-Some.info.text c.put.result refl c.as_bytes.ensures (c.put.ensures.went tells))
+
+pub returns-in-Some-clause-some : goal.returns-in-Some-clause-some
+returns-in-Some-clause-some g c = λ tells. put_some _ _ _ _ _ c.put.result (c.put.ensures.went tells)
+
+pub returns-in-None-clause-some : goal.returns-in-None-clause-some
+returns-in-None-clause-some g c = λ tells. some_nothing _ _

@@ -1,0 +1,16 @@
+pub mod Pipeline
+pub mod Requests
+pub mod Did
+pub mod Drafts
+pub mod Errors
+pub mod Looking
+pub mod Making
+pub mod Recorded
+pub mod Tasks
+pub mod Running
+pub mod Local
+pub mod Open
+pub mod Free
+pub mod Listings
+pub mod Shown
+pub mod Made
