@@ -1,23 +1,23 @@
 -- Where nothing keeps a command from running and no count of faults rises, it ends at 0 or 7.
-use Rattle.std.proofs.Common.{◌≡◌, ℕ, List, Option, None, Some, Result, refl, ap, sym, ◌∙◌, subst, inl, inr, ◌⊎◌}
+use Rattle.std.proofs.Common.{◌≡◌, ℕ, List, [], Option, None, Some, Result, refl, ap, sym, ◌∙◌, subst, inl, inr, ◌⊎◌}
 use Rattle.ig_defs.specs.Causes.{Rose}
 use Rattle.ig_defs.specs.Files.{Files}
 use Rattle.ig_defs.specs.Log.{Log, files_of}
-use Rattle.ig_defs.specs.Own.{put_all}
+use Rattle.ig_defs.specs.Own.{moments_since, put_all}
 use Rattle.ig_meaning.specs.Call.{IsReady}
 use Rattle.ig_meaning.specs.Ending.{Finished, Refuses, StoreFailed, NoMemory}
-use Rattle.ig_meaning.specs.Fault.{making_of_copy}
+use Rattle.ig_meaning.specs.Making.{Planned, making_of_copy}
 use Rattle.ig_meaning.specs.Plan.{stage_of_command}
 use Rattle.ig_meaning.specs.Refusal.{Refusal}
 use Rattle.ig_record.specs.declared.stage.Stage.{Stage}
 use Rattle.ig_meaning.specs.Stage.{info_files, sequential}
-use Rattle.ig_meaning.specs.Words.{Command, command_of}
+use Rattle.ig_meaning.specs.Words.{Command, Enqueue, Request, command_of}
 use Rattle.ig_cli.specs.declared.report.CommandError.{CommandError}
-use Rattle.ig_cli.specs.Did.{moments_from}
-use Rattle.ig_cli.specs.Making.{ending_of_make}
-use Rattle.ig_cli.specs.Performed.{Performed, JudgesWords, not_words, not_read, not_made, was_run}
+use Rattle.ig_cli.specs.declared.done.Done.{Done}
+use Rattle.ig_stage.specs.Errors.{ending_of_make}
+use Rattle.ig_cli.specs.Performed.{Performed, JudgesWords, enqueued, not_words, not_read, not_made, was_run}
 use Rattle.ig_cli.specs.Report.{Ended, Ends, NotWords, IsStatusOf, ended_of}
-use Rattle.ig_cli.proofs.Performs.{WasRun, ends_same, refused_making, was_run_as}
+use Rattle.ig_cli.proofs.Performs.{HasWasRun, ends_same, refused_making, was_run_as}
 use Rattle.ig_cli.proofs.Ready.{ready_not_refused}
 
 -- the same stage has the same run
@@ -28,21 +28,27 @@ same_run s t files after same none some =
     let no_run : sequential t (put_all files (info_files t.info)) ≡ None = subst (λ x. sequential x (put_all files (info_files x.info)) ≡ None) is none in
     let no_way : None ≡ Some after = sym no_run ∙ some in cc
 
-run_not_refused : (words : List (List ℕ)) (old new : Log) (r : Refusal) → IsReady words (files_of old) → WasRun words old new (Refuses r) → ⊥
+run_not_refused : (words : List (List ℕ)) (old new : Log) (r : Refusal) → IsReady words (files_of old) → HasWasRun words old new (Refuses r) → ⊥
 run_not_refused words old new r ready w = same_run w.stage ready.stage (files_of old) ready.after (sym w.planned ∙ ready.planned) w.run.refused ready.runs
 
+-- a command with a queue runs no stage itself
+queue_runs_none : (words : List (List ℕ)) (files : Files) (q : List ℕ) (request : Request) → IsReady words files → command_of words ≡ Some (Enqueue q request) → ⊥
+queue_runs_none words files q request ready asked =
+    let no_way : None ≡ Some ready.stage = sym (ap (λ command. stage_of_command command files) asked) ∙ ready.planned in cc
+
 -- such a command does not refuse
-never_refuses : (words : List (List ℕ)) (old new : Log) (result : Result ℕ CommandError) (r : Refusal) → IsReady words (files_of old) → Performed words old new result
+never_refuses : (words : List (List ℕ)) (old new : Log) (result : Result Done CommandError) (r : Refusal) → IsReady words (files_of old) → Performed words old new result
     → ended_of result ≡ Ends (Refuses r) → ⊥
-never_refuses words old new result r ready (not_words is none did) e = let no_way : NotWords ≡ Ends (Refuses r) = sym is ∙ e in cc
-never_refuses words old new result r ready (not_read is did) e = let no_way : Ends NoMemory ≡ Ends (Refuses r) = sym is ∙ e in cc
-never_refuses words old new result r ready (not_made request error is asked looks) e =
+never_refuses words old new result r ready (not_words is none same) e = let no_way : NotWords ≡ Ends (Refuses r) = sym is ∙ e in cc
+never_refuses words old new result r ready (not_read is same) e = let no_way : Ends NoMemory ≡ Ends (Refuses r) = sym is ∙ e in cc
+never_refuses words old new result r ready (not_made request error is asked only fails) e =
     let ends : ending_of_make error ≡ Refuses r = ends_same (ending_of_make error) (Refuses r) (sym (ap ended_of is) ∙ e) in
-    ready_not_refused words (files_of old) request looks.acts r ready asked looks.quiet looks.truly
-    (refused_making (making_of_copy request) (moments_from (files_of old) looks.acts) (ending_of_make error) r looks.made ends)
-never_refuses words old new result r ready (was_run request stage mid ending is asked planned looks runs tasks) e =
+    ready_not_refused words (files_of old) request only.acts r ready asked only.quiet only.truly
+    (ap (making_of_copy [] Planned request) (sym only.moments) ∙ refused_making (making_of_copy [] Planned request) (moments_since old new) (ending_of_make error) r fails ends)
+never_refuses words old new result r ready (was_run request stage ending is asked w done) e =
     run_not_refused words old new r ready
-    (subst (WasRun words old new) (ends_same ending (Refuses r) (sym is ∙ e)) (was_run_as words old mid new request stage ending asked planned looks runs))
+    (subst (HasWasRun words old new) (ends_same ending (Refuses r) (sym is ∙ e)) (was_run_as words old new request asked stage ending w))
+never_refuses words old new result r ready (enqueued q request made is asked m) e = absurd (queue_runs_none words (files_of old) q request ready asked)
 
 -- and its words are a command's
 has_command : (command : Option Command) (files : Files) (s : Stage) → stage_of_command command files ≡ Some s → command ≡ None → ⊥
@@ -60,7 +66,7 @@ left (Ends (Refuses r)) status is words refuses store out = absurd (refuses r re
 left (Ends StoreFailed) status is words refuses store out = absurd (store refl)
 left (Ends NoMemory) status is words refuses store out = inr is
 
-pub complete : (words : List (List ℕ)) (old new : Log) (result : Result ℕ CommandError) (status store_before store_now out_before out_now : ℕ)
+pub complete : (words : List (List ℕ)) (old new : Log) (result : Result Done CommandError) (status store_before store_now out_before out_now : ℕ)
     → IsStatusOf (ended_of result) status → JudgesWords words (ended_of result) → Performed words old new result
     → (ended_of result ≡ Ends StoreFailed → Rose store_before store_now) → (status ≡ 9 → Rose out_before out_now)
     → IsReady words (files_of old) → ¬ Rose store_before store_now → ¬ Rose out_before out_now → (status ≡ 0) ⊎ (status ≡ 7)

@@ -1,13 +1,7 @@
-pub mod Allowed
-pub mod Pipeline
-pub mod Did
+pub mod Rules
 pub mod Options
 pub mod Parts
 pub mod Words
-pub mod Stages
-pub mod Making
-pub mod Tasks
-pub mod Running
 pub mod Report
 pub mod Performed
 pub mod Printed

@@ -1,33 +1,46 @@
 -- What a command did, by what it gave.
-use Rattle.std.specs.Prelude.{◌≡◌, ℕ, List, [], Some, None, Result, Ok, Err, IfOk}
-use Rattle.ig_defs.specs.Files.{file_at}
-use Rattle.ig_defs.specs.Log.{Log, files_of}
+use Rattle.std.specs.Prelude.{◌≡◌, ℕ, List, [], ◌∷◌, Some, None, Result, Ok, Err}
+use Rattle.ig_defs.specs.Log.{Log}
+use Rattle.ig_defs.specs.Own.{moments_since}
 use Rattle.ig_meaning.specs.Ending.{Ending, NoMemory}
-use Rattle.ig_meaning.specs.Fault.{Planned, making_of_copy}
-use Rattle.ig_meaning.specs.Plan.{info_path, stage_of_found}
-use Rattle.ig_record.specs.Stage.{task_count}
-use Rattle.ig_meaning.specs.Words.{Copy, Request, command_of}
-use Rattle.ig_cli.specs.declared.making.MakeError.{MakeError}
+use Rattle.ig_meaning.specs.Making.{Planned, making_of_copy}
+use Rattle.ig_meaning.specs.Words.{Copy, Enqueue, Request, command_of}
+use Rattle.ig_record.specs.declared.stage.Stage.{Stage}
+use Rattle.ig_stage.specs.declared.enqueuing.Made as queue
+use Rattle.ig_stage.specs.declared.error.LocalError.TheVariants.{Make}
+use Rattle.ig_stage.specs.declared.error.MakeError.{MakeError}
+use Rattle.ig_stage.specs.Errors.{ending_of_make}
+use Rattle.ig_stage.specs.Local.{OnlyLooked, WasRun, ran_of}
+use Rattle.ig_stage.specs.Looking.{IsErrorOf}
+use Rattle.ig_stage.specs.Made.{MakesIn}
+use Rattle.ig_cli.specs.declared.done.Done.{Done}
+use Rattle.ig_cli.specs.declared.done.Done.TheVariants.{Ran, Made}
 use Rattle.ig_cli.specs.declared.report.CommandError.{CommandError}
 use Rattle.ig_cli.specs.declared.report.CommandError.TheVariants.{Local}
-use Rattle.ig_cli.specs.declared.running.LocalError.TheVariants.{Make}
-use Rattle.ig_cli.specs.declared.stage.Stage.{Stage}
-use Rattle.ig_cli.specs.Did.{Did}
-use Rattle.ig_cli.specs.Making.{Looks}
 use Rattle.ig_cli.specs.Report.{Ended, Ends, NotWords, ended_of}
-use Rattle.ig_cli.specs.Running.{Runs}
-use Rattle.ig_cli.specs.Stages.{shown}
 
--- The words were no command's; memory ran out before that was known; the copy was not made; or it was made and run.
-pub data Performed (words : List (List ℕ)) (old new : Log) (result : Result ℕ CommandError) : Type 0 where
-  not_words : ended_of result ≡ NotWords → command_of words ≡ None → Did old new [] → Performed words old new result
-  not_read : ended_of result ≡ Ends NoMemory → Did old new [] → Performed words old new result
+-- that the one stage was run
+abbrev pub IsRun : Stage → Result Done CommandError → Type 0
+IsRun stage (Ok (Ran ran)) = ran ≡ ran_of stage ∷ []
+IsRun stage (Ok (Made made)) = ⊥
+IsRun stage (Err e) = Unit {0}
+
+-- what a command gives, by what the making in a queue gave
+abbrev pub given_by : Result queue.Made MakeError → Result Done CommandError
+given_by (Ok made) = Ok (Made made)
+given_by (Err e) = Err (Local (Make e))
+
+-- The words were no command's; memory ran out before that was known; the copy was not made; it was made and run; or its making in a
+-- queue went so.
+pub data Performed (words : List (List ℕ)) (old new : Log) (result : Result Done CommandError) : Type 0 where
+  not_words : ended_of result ≡ NotWords → command_of words ≡ None → new ≡ old → Performed words old new result
+  not_read : ended_of result ≡ Ends NoMemory → new ≡ old → Performed words old new result
   not_made : (request : Request) (e : MakeError) → result ≡ Err (Local (Make e)) → command_of words ≡ Some (Copy request)
-      → Looks {T = Stage} (making_of_copy request) (λ stage. Planned (shown stage)) old new (Err e) → Performed words old new result
-  was_run : (request : Request) (stage : Stage) (mid : Log) (ending : Ending) → ended_of result ≡ Ends ending → command_of words ≡ Some (Copy request)
-      → stage_of_found request (file_at (files_of old) (info_path request.source)) ≡ Some (shown stage)
-      → Looks {T = Stage} (making_of_copy request) (λ stage. Planned (shown stage)) old mid (Ok stage)
-      → Runs (shown stage) mid new ending → IfOk result (λ tasks. tasks ≡ task_count (shown stage)) → Performed words old new result
+      → OnlyLooked old new → IsErrorOf (making_of_copy [] Planned request) (moments_since old new) (ending_of_make e) → Performed words old new result
+  was_run : (request : Request) (stage : Stage) (ending : Ending) → ended_of result ≡ Ends ending → command_of words ≡ Some (Copy request)
+      → WasRun request old new stage ending → IsRun stage result → Performed words old new result
+  enqueued : (q : List ℕ) (request : Request) (made : Result queue.Made MakeError) → result ≡ given_by made → command_of words ≡ Some (Enqueue q request)
+      → MakesIn q request old new made → Performed words old new result
 
 -- The words are no command's where a command ended so, and elsewhere they are one's, unless memory ran out.
 pub record JudgesWords (words : List (List ℕ)) (ended : Ended) : Type 0 where

@@ -1,15 +1,19 @@
 -- What is printed of a command that ended, and its status.
-use Rattle.std.specs.Prelude.{◌≡◌, ◌⊎◌, ◌==◌, if◌then◌else◌, ℕ, List, [], ◌++◌, Result, Ok, Err, string_bytes}
+use Rattle.std.specs.Prelude.{◌≡◌, ◌⊎◌, ◌==◌, if◌then◌else◌, ℕ, List, [], ◌∷◌, ◌++◌, Result, Ok, Err, codes, string_bytes}
 use Rattle.ig_defs.specs.Causes.{Rose}
 use Rattle.ig_store.specs.Sink.{TakesPrefix}
-use Rattle.ig_record.specs.declared.stage.Kind.TheVariants.{Xfer}
 use Rattle.ig_meaning.specs.Ending.{Ending, Finished, Refuses, StoreFailed, NoMemory}
-use Rattle.ig_meaning.specs.Lines.{fault_line, memory_text, ran_line, refusal_text, store_text, words_text}
+use Rattle.ig_meaning.specs.Lines.{fault_line, memory_text, queue_line, ran_line, refusal_text, store_text, words_text}
+use Rattle.ig_cli.specs.declared.done.Done.{Done}
+use Rattle.ig_cli.specs.declared.done.Done.TheVariants.{Ran, Made}
 use Rattle.ig_cli.specs.declared.lines.FaultLine.{FaultLine}
 use Rattle.ig_cli.specs.declared.lines.FaultLine.TheVariants as fault
 use Rattle.ig_cli.specs.declared.report.CommandError.{CommandError}
 use Rattle.ig_cli.specs.declared.report.CommandError.TheVariants.{Words, Local}
-use Rattle.ig_cli.specs.Running.{ending_of_local}
+use Rattle.ig_stage.specs.declared.enqueuing.Made as queue
+use Rattle.ig_stage.specs.declared.enqueuing.Made.TheVariants.{New, Continued}
+use Rattle.ig_stage.specs.declared.local.RanStage.{RanStage}
+use Rattle.ig_stage.specs.Running.{ending_of_local}
 
 -- the words were no command's, or a command ended so
 pub data Ended : Type 0 where
@@ -20,8 +24,8 @@ abbrev pub ended_of_error : CommandError → Ended
 ended_of_error Words = NotWords
 ended_of_error (Local e) = Ends (ending_of_local e)
 
-abbrev pub ended_of : Result ℕ CommandError → Ended
-ended_of (Ok tasks) = Ends Finished
+abbrev pub ended_of : Result Done CommandError → Ended
+ended_of (Ok done) = Ends Finished
 ended_of (Err e) = ended_of_error e
 
 -- the statuses that may come; 7 in place of 0 or 5 where memory for the line runs out, 9 where the output failed
@@ -44,9 +48,23 @@ own_line (Ends NoMemory) = fault_line memory_text
 abbrev pub err_line : Ended → ℕ → List ℕ
 err_line ended status = if status == 7 then fault_line memory_text else own_line ended
 
--- on standard output, once all tasks were run
-abbrev pub out_line : Result ℕ CommandError → List ℕ
-out_line (Ok tasks) = ran_line Xfer tasks
+-- a line for each stage that was run
+abbrev pub ran_text : List RanStage → List ℕ
+ran_text [] = []
+ran_text (ran ∷ rest) = ran_line ran.kind ran.tasks ++ ran_text rest
+
+-- the line of the stage that was made in a queue
+abbrev pub made_text : queue.Made → List ℕ
+made_text (New stage kind tasks) = queue_line (codes "made") stage kind tasks
+made_text (Continued stage kind tasks) = queue_line (codes "continued") stage kind tasks
+
+abbrev pub done_text : Done → List ℕ
+done_text (Ran ran) = ran_text ran
+done_text (Made made) = made_text made
+
+-- on standard output, once all was done
+abbrev pub out_line : Result Done CommandError → List ℕ
+out_line (Ok done) = done_text done
 out_line (Err e) = []
 
 -- At status 0 the line was taken, at 9 some first part of it, else nothing.

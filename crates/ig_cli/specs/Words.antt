@@ -1,26 +1,18 @@
 -- What the words of the command line ask for.
-use Rattle.std.specs.Prelude.{◌≡◌, ◌≢◌, ◌≤◌, ℕ, true, List, Option, None, Some, IfSome, String, length, map, option_map, string_bytes}
+use Rattle.std.specs.Prelude.{◌≡◌, ◌≤◌, ℕ, true, List, length, IfSome, String, map, option_map, string_bytes}
 use Rattle.std.specs.declared.alloc.Global.{Global}
-use Rattle.ig_space.specs.Path.{is_path}
-use Rattle.ig_meaning.specs.Words.{Coding, Compressed, Copy, Plain, Request, command_of}
-use Rattle.ig_cli.specs.declared.words.Coding as word
-use Rattle.ig_cli.specs.declared.words.Coding.TheVariants.{Raw, Cseg}
-use Rattle.ig_cli.specs.declared.words.Request as reading
+use Rattle.ig_meaning.specs.QueueWords.{is_apart}
+use Rattle.ig_meaning.specs.Words as meaning
+use Rattle.ig_meaning.specs.Words.{Request}
+use Rattle.ig_stage.specs.declared.request.Request as reading
+use Rattle.ig_stage.specs.Requests.{HasLimits, HasSides, shown_coding, shown_request}
+use Rattle.ig_cli.specs.declared.words.Command.{Command}
+use Rattle.ig_cli.specs.declared.words.Command.TheVariants.{Copy, Enqueue}
 use Rattle.ig_cli.specs.declared.words.Sizes.{Sizes}
-use Rattle.ig_cli.specs.Options.{HasSides}
 
 -- the bytes of each word
 abbrev pub texts_of : List (String Global) → List (List ℕ)
 texts_of words = map string_bytes words
-
--- the encoding that this is
-abbrev pub shown_coding : word.Coding → Coding
-shown_coding Raw = Plain
-shown_coding Cseg = Compressed
-
--- the request that this is
-abbrev pub shown_request : reading.Request → Request
-shown_request request = record { source = request.source; dest = request.dest; mip = request.mip; chunk = request.chunk; shape = request.shape; encoding = option_map shown_coding request.encoding; block = request.block }
 
 -- the request for the copy of one layer into another
 abbrev pub request_with : List ℕ → List ℕ → Sizes → Request
@@ -32,18 +24,18 @@ pub record HasSizes (sizes : Sizes) : Type 0 where
   pub chunk_sides : IfSome sizes.chunk HasSides
   pub shape_sides : IfSome sizes.shape HasSides
 
--- short paths, which are not the same, and numbers within their limits
-pub record HasLimits (request : reading.Request) : Type 0 where
-  pub source_path : is_path request.source ≡ true
-  pub source_short : length request.source ≤ 100
-  pub dest_path : is_path request.dest ≡ true
-  pub dest_short : length request.dest ≤ 100
-  pub apart : request.source ≢ request.dest
-  pub mip_limit : request.mip ≤ 99
-  pub chunk_sides : IfSome request.chunk HasSides
-  pub shape_sides : IfSome request.shape HasSides
+-- the command that this is
+abbrev pub shown_command : Command → meaning.Command
+shown_command (Copy request) = meaning.Copy (shown_request request)
+shown_command (Enqueue queue request) = meaning.Enqueue queue (shown_request request)
 
--- the request is that of the words
-abbrev pub Reads : List (List ℕ) → Option reading.Request → Type 0
-Reads words None = command_of words ≡ None
-Reads words (Some request) = (command_of words ≡ Some (Copy (shown_request request))) × HasLimits request
+-- The queue's path is short, and the layers lie apart from it.
+pub record CanHold (queue : List ℕ) (request : reading.Request) : Type 0 where
+  pub short : length queue ≤ 100
+  pub source_apart : is_apart queue request.source ≡ true
+  pub dest_apart : IfSome request.dest (λ dest. is_apart queue dest ≡ true)
+
+-- what is known of a command that was read
+abbrev pub IsLawful : Command → Type 0
+IsLawful (Copy request) = HasLimits request
+IsLawful (Enqueue queue request) = HasLimits request × CanHold queue request

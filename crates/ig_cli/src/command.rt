@@ -1,28 +1,42 @@
 //! The top call.
-ghost use Rattle.std.specs.Prelude.{◌≡◌, ◌≢◌, ◌⊎◌, ◌↔◌, ◌≤◌, ◌++◌, ◌∷◌, [], None, Some, Contains, IsSome, IfOk};
+ghost use Rattle.std.specs.Prelude.{◌≡◌, ◌≢◌, ◌⊎◌, ◌↔◌, ◌≤◌, ◌++◌, ◌∷◌, [], List as list, ℕ, false, None, Some, Contains, IsSome, IfOk};
 ghost use Rattle.ig_defs.specs.Causes.{Rose};
-ghost use Rattle.ig_defs.specs.Log.{files_of};
+ghost use Rattle.ig_defs.specs.declared.step.Step.{Step};
+ghost use Rattle.ig_defs.specs.Log.{files_of, replay};
+ghost use Rattle.ig_store.specs.Sink.{TakesPrefix};
 ghost use Rattle.ig_defs.specs.Own.{moments_since, put_all, puts_of};
 ghost use Rattle.ig_meaning.specs.Call.{IsCopied, IsReady, IsSequential, PutsAll, PutsInOrder};
 ghost use Rattle.ig_meaning.specs.Ending.{StoreFailed};
 ghost use Rattle.ig_meaning.specs.Fault.{fault_of, making_of};
-ghost use Rattle.ig_meaning.specs.Lines.{fault_line, memory_text, store_text, words_text};
-ghost use Rattle.ig_meaning.specs.Words.{command_of};
-ghost use Rattle.ig_cli.specs.Pipeline.{local_rule, rule_of_words};
-ghost use Rattle.ig_cli.specs.Words.{texts_of};
-ghost use Rattle.ig_cli.specs.Report.{ended_of, Ends};
+ghost use Rattle.ig_meaning.specs.Lines.{fault_line, made_line, memory_text, store_text, words_text};
+ghost use Rattle.ig_meaning.specs.Exactly.{HoldsExactly};
+ghost use Rattle.ig_meaning.specs.QueueActs.{HasMade};
+ghost use Rattle.ig_meaning.specs.Words as meaning;
+ghost use Rattle.ig_meaning.specs.Words.{command_of, queue_of_words};
+ghost use Rattle.ig_rule.specs.Facts.{Facts};
+ghost use Rattle.ig_rule.specs.QueueFiles.{queue_of};
+ghost use Rattle.ig_rule.specs.Sound.{Legal};
+ghost use Rattle.ig_rule.specs.Stages.{stages_in, Clear, Drained};
+ghost use Rattle.ig_stage.specs.declared.error.LocalError.TheVariants as local;
+ghost use Rattle.ig_stage.specs.declared.error.MakeError.TheVariants as make;
+ghost use Rattle.ig_stage.specs.Pipeline.{local_rule};
+ghost use Rattle.ig_stage.specs.Open.{maker_rule};
+ghost use Rattle.ig_stage.specs.Requests.{shown_request, HasLimits};
+ghost use Rattle.ig_task.specs.Facts.{stage_reader};
+ghost use Rattle.ig_cli.specs.Rules.{rule_of_words};
+ghost use Rattle.ig_cli.specs.Words.{texts_of, CanHold};
+ghost use Rattle.ig_cli.specs.Report.{ended_of, Ends, NotWords};
 ghost use Rattle.ig_cli.specs.Printed.{HasComplained, HasPrinted, HasPrintedPart};
 ghost use Rattle.ig_cli.specs.Performed.{JudgesWords, Performed};
 ghost use Rattle.ig_cli.specs.declared.report.CommandError.TheVariants as command;
-ghost use Rattle.ig_cli.specs.declared.running.LocalError.TheVariants as local;
-ghost use Rattle.ig_cli.specs.declared.making.MakeError.TheVariants as make;
 
-use crate::making::MakeError;
+use crate::done::Done;
 use crate::report::{CommandError, report};
-use crate::running::LocalError;
-use crate::words::read_words;
-use crate::{Pipeline, making, running};
+use crate::words::{Command, read_words};
+use ig_space::Path;
+use ig_stage::{LocalError, MakeError, Request, Requests, make, run_local};
 use ig_store::{Clock, Sink, Store};
+use ig_task::Pipeline;
 use std::alloc::{AllocError, Global};
 use std::thread::Threads;
 
@@ -50,30 +64,75 @@ impl From<LocalError> for CommandError {
     }
 }
 
-/// Does what the words ask for. Gives the number of tasks that were run.
+/// The requests of a command that has this one.
+fn only(alloc: Global, request: Request) -> Result<Requests, AllocError>
+    ensures { IfOk result (λ want. want ≡ request ∷ []) }
+{
+    let mut want = Requests::new(alloc);
+    want.push(request)?;
+    Ok(want)
+}
+
+/// Makes a copy and runs it.
+fn copy<S: Store<Pipeline>>(
+    alloc: Global,
+    store: &mut S,
+    request: Request,
+) -> Result<Done, CommandError>
+    requires rule { S.rule store.old ≡ local_rule }
+    requires limits { HasLimits request }
+    ensures later { S.faults store.old ≤ S.faults store.new }
+    ensures cause { ended_of result ≡ Ends StoreFailed → Rose (S.faults store.old) (S.faults store.new) }
+    ensures not_words { ended_of result ≡ NotWords → ⊥ }
+    ensures performed { S.tells → (words : list (list ℕ)) → command_of words ≡ Some (meaning.Copy (shown_request request)) → Performed words (S.log store.old) (S.log store.new) result }
+{
+    let want = only(alloc, request)?;
+    Ok(Done::Ran(run_local(alloc, store, &want)?))
+}
+
+/// Makes the stage of a copy in a queue.
+fn enqueue<S: Store<Pipeline>>(
+    alloc: Global,
+    store: &mut S,
+    queue: &Path,
+    request: &Request,
+) -> Result<Done, CommandError>
+    requires rule { S.rule store.old ≡ maker_rule queue.now }
+    requires limits { HasLimits request.now }
+    requires apart { CanHold queue.now request.now }
+    ensures later { S.faults store.old ≤ S.faults store.new }
+    ensures cause { ended_of result ≡ Ends StoreFailed → Rose (S.faults store.old) (S.faults store.new) }
+    ensures not_words { ended_of result ≡ NotWords → ⊥ }
+    ensures performed { S.tells → (words : list (list ℕ)) → command_of words ≡ Some (meaning.Enqueue queue.now (shown_request request.now)) → Performed words (S.log store.old) (S.log store.new) result }
+    ensures legal { S.tells → Legal stage_reader queue.now (S.log store.old) → Legal stage_reader queue.now (S.log store.new) }
+{
+    Ok(Done::Made(make(alloc, store, queue, request)?))
+}
+
+/// Does what the words ask for. Gives what was done.
 fn perform<S: Store<Pipeline>>(
     alloc: Global,
     words: &Vec<String>,
     store: &mut S,
-) -> Result<u64, CommandError>
-    requires rule { S.rule store.old ≡ local_rule }
+) -> Result<Done, CommandError>
+    requires rule { S.rule store.old ≡ rule_of_words (texts_of words.now.items) }
     ensures later { S.faults store.old ≤ S.faults store.new }
     ensures cause { ended_of result ≡ Ends StoreFailed → Rose (S.faults store.old) (S.faults store.new) }
     ensures words { JudgesWords (texts_of words.now.items) (ended_of result) }
     ensures performed { S.tells → Performed (texts_of words.now.items) (S.log store.old) (S.log store.new) result }
+    ensures legal { S.tells → (q : list ℕ) → queue_of_words (texts_of words.now.items) ≡ Some q → Legal stage_reader q (S.log store.old) → Legal stage_reader q (S.log store.new) }
 {
-    let Some(request) = read_words(alloc, words)? else {
-        return Err(CommandError::Words);
-    };
-    let stage = making::make(alloc, store, &request)?;
-    let tasks = running::run(alloc, store, &stage)?;
-    Ok(tasks)
+    match read_words(alloc, words)? {
+        Some(Command::Copy(request)) => copy(alloc, store, request),
+        Some(Command::Enqueue { queue, request }) => enqueue(alloc, store, &queue, &request),
+        None => Err(CommandError::Words),
+    }
 }
 
 /// Runs the command of these words, those after the program's name, over a store, and prints what it has to say on
 /// `out` and `err`. Gives the exit status: 0 where all was done, 2 where the words are no command's, 5 where a file is
-/// missing or malformed, the new layer isn't empty, or the scale or the shape isn't lawful, 6 at a fault of the store, 7
-/// where memory ran out, 9 at a fault of the output.
+/// missing or malformed, the new layer isn't empty, a stage of the queue has it, or the scale or the shape isn't lawful, 6
+/// at a fault of the store, 7 where memory ran out, 9 at a fault of the output.
 pub fn igneous<R: Threads + Sync, S: Store<Pipeline>, C: Clock, O: Sink, E: Sink>(
     rt: &R,
     alloc: Global,
@@ -83,7 +142,7 @@ pub fn igneous<R: Threads + Sync, S: Store<Pipeline>, C: Clock, O: Sink, E: Sink
     out: &mut O,
     err: &mut E,
 ) -> u8
-    requires { S.rule store.old ≡ rule_of_words words.now.items }
+    requires { S.rule store.old ≡ rule_of_words (texts_of words.now.items) }
 
     // Each status has its cause. Want of memory alone is free.
     ensures statuses { Contains (0 ∷ 2 ∷ 5 ∷ 6 ∷ 7 ∷ 9 ∷ []) result }
@@ -93,20 +152,28 @@ pub fn igneous<R: Threads + Sync, S: Store<Pipeline>, C: Clock, O: Sink, E: Sink
     ensures out_failed { result ≡ 9 → Rose (O.faults out.old) (O.faults out.new) }
     ensures complete { S.tells → IsReady (texts_of words.now.items) (files_of (S.log store.old)) → ¬ Rose (S.faults store.old) (S.faults store.new) → ¬ Rose (O.faults out.old) (O.faults out.new) → (result ≡ 0) ⊎ (result ≡ 7) }
 
-    // At status 0 the new layer has its info and exactly the wanted files, and nothing else changed.
-    ensures copied { S.tells → result ≡ 0 → IsCopied (texts_of words.now.items) (S.log store.old) (S.log store.new) }
-    ensures in_sequence { S.tells → result ≡ 0 → IsSequential (texts_of words.now.items) (S.log store.old) (S.log store.new) }
+    // Without a queue, at status 0 the new layer has its info and exactly the wanted files, and nothing else changed.
+    ensures copied { S.tells → result ≡ 0 → queue_of_words (texts_of words.now.items) ≡ None → IsCopied (texts_of words.now.items) (S.log store.old) (S.log store.new) }
+    ensures in_sequence { S.tells → result ≡ 0 → queue_of_words (texts_of words.now.items) ≡ None → IsSequential (texts_of words.now.items) (S.log store.old) (S.log store.new) }
 
-    // At each status only own puts change files, and these are first ones of the plan.
-    ensures only_puts { S.tells → files_of (S.log store.new) ≡ put_all (files_of (S.log store.old)) (puts_of (moments_since (S.log store.old) (S.log store.new))) }
+    // At each status only own puts change files, without a queue, and these are first ones of the plan.
+    ensures only_puts { S.tells → queue_of_words (texts_of words.now.items) ≡ None → files_of (S.log store.new) ≡ put_all (files_of (S.log store.old)) (puts_of (moments_since (S.log store.old) (S.log store.new))) }
     ensures in_order { S.tells → PutsInOrder (making_of (texts_of words.now.items) (moments_since (S.log store.old) (S.log store.new))) (files_of (S.log store.old)) (moments_since (S.log store.old) (S.log store.new)) }
     ensures to_the_refusal { S.tells → result ≡ 5 → PutsAll (making_of (texts_of words.now.items) (moments_since (S.log store.old) (S.log store.new))) (files_of (S.log store.old)) (moments_since (S.log store.old) (S.log store.new)) }
     ensures idle { S.tells → command_of (texts_of words.now.items) ≡ None → moments_since (S.log store.old) (S.log store.new) ≡ [] }
 
     // What `out` took.
-    ensures printed { S.tells → O.tells → result ≡ 0 → HasPrinted (texts_of words.now.items) (S.log store.old) (O.taken out.old) (O.taken out.new) }
-    ensures printed_part { S.tells → O.tells → result ≡ 9 → HasPrintedPart (texts_of words.now.items) (S.log store.old) (O.taken out.old) (O.taken out.new) }
+    ensures printed { S.tells → O.tells → result ≡ 0 → queue_of_words (texts_of words.now.items) ≡ None → HasPrinted (texts_of words.now.items) (S.log store.old) (O.taken out.old) (O.taken out.new) }
+    ensures printed_part { S.tells → O.tells → result ≡ 9 → queue_of_words (texts_of words.now.items) ≡ None → HasPrintedPart (texts_of words.now.items) (S.log store.old) (O.taken out.old) (O.taken out.new) }
     ensures printed_nothing { O.tells → ¬ (result ≡ 0) → ¬ (result ≡ 9) → O.taken out.new ≡ O.taken out.old }
+
+    // With a queue, at status 0 the stage was made there, or what was left of the last one. The log stays legal; so wherever
+    // it stands with a stage drained, the output directories of that stage hold exactly the wanted files.
+    ensures made { S.tells → result ≡ 0 → (q : list ℕ) → queue_of_words (texts_of words.now.items) ≡ Some q → HasMade q (making_of (texts_of words.now.items) (moments_since (S.log store.old) (S.log store.new))) }
+    ensures printed_made { S.tells → O.tells → result ≡ 0 → (q : list ℕ) → queue_of_words (texts_of words.now.items) ≡ Some q → O.taken out.new ≡ O.taken out.old ++ made_line (making_of (texts_of words.now.items) (moments_since (S.log store.old) (S.log store.new))) }
+    ensures printed_made_part { S.tells → O.tells → result ≡ 9 → (q : list ℕ) → queue_of_words (texts_of words.now.items) ≡ Some q → TakesPrefix (O.taken out.old) (made_line (making_of (texts_of words.now.items) (moments_since (S.log store.old) (S.log store.new)))) (O.taken out.new) }
+    ensures legal { S.tells → (q : list ℕ) → queue_of_words (texts_of words.now.items) ≡ Some q → Legal stage_reader q (S.log store.old) → Legal stage_reader q (S.log store.new) }
+    ensures drained { S.tells → (q : list ℕ) → queue_of_words (texts_of words.now.items) ≡ Some q → Legal stage_reader q (S.log store.old) → (xs ys : list Step) → (S.log store.new).steps ≡ xs ++ ys → (n : ℕ) (s : Facts) → stages_in stage_reader q (replay (S.log store.new).opening xs) n ≡ Some s → Drained (queue_of q (replay (S.log store.new).opening xs)) n → Clear (stages_in stage_reader q (replay (S.log store.new).opening xs)) n s → s.removes ≡ false → HoldsExactly s (replay (S.log store.new).opening xs) }
 
     // What `err` took, where its count of faults did not rise.
     ensures told_words { E.tells → ¬ Rose (E.faults err.old) (E.faults err.new) → result ≡ 2 → E.taken err.new ≡ E.taken err.old ++ fault_line words_text }

@@ -1,25 +1,23 @@
-//! The command line: its words, the copy of a layer, what is printed, and the top call `igneous`, which carries the
-//! end-to-end promises. It stands on stores and sinks (`ig_store`), infos (`ig_info`) and on the definitions of what a
-//! command means (`ig_meaning`).
+//! The command line: its words, what is printed, and the top call `igneous`, which carries the end-to-end promises. It
+//! stands on the stages that a command makes and runs (`ig_stage`), on stores and sinks (`ig_store`) and on the definitions
+//! of what a command means (`ig_meaning`).
 #![tactic(auto)]
 
-mod calls;
 mod command;
+mod done;
 #[cfg(test)]
 mod encodings_tests;
 #[cfg(test)]
 mod layers_tests;
 mod lines;
-mod making;
-#[cfg(test)]
-mod making_tests;
 mod options;
-mod pipeline;
-mod planning;
+#[cfg(test)]
+mod planning_tests;
+#[cfg(test)]
+mod queue_tests;
+mod queue_words;
 mod report;
-mod running;
-mod stage;
-mod task;
+mod rule;
 #[cfg(test)]
 mod tests;
 mod words;
@@ -27,4 +25,5 @@ mod words;
 mod words_tests;
 
 pub use command::igneous;
-pub use pipeline::{Pipeline, Role, rule_of};
+pub use ig_task::{Pipeline, Role};
+pub use rule::rule_of;

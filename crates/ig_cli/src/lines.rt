@@ -1,22 +1,21 @@
-//! The lines that a command prints, each with its line end.
+//! The lines of commands that ended early, each with its line end.
 ghost use Rattle.std.specs.Prelude.{◌≡◌, IfOk, codes, string_bytes};
 ghost use Rattle.std.specs.Fmt.{decimal};
 ghost use Rattle.ig_layer.specs.Faults as layer;
 ghost use Rattle.ig_meaning.specs.Refusal as refusal;
-ghost use Rattle.ig_record.specs.declared.stage.Kind.TheVariants.{Xfer};
 ghost use Rattle.ig_meaning.specs.Ending.{Refuses};
-ghost use Rattle.ig_meaning.specs.Lines.{axis_text, fault_line, refusal_text, spaced, ran_line as line_of_ran};
-ghost use Rattle.ig_cli.specs.Making.{ending_of_make};
+ghost use Rattle.ig_meaning.specs.Lines.{axis_text, fault_line, refusal_text, spaced};
 ghost use Rattle.ig_cutout.specs.Inputs.{cause_of};
-ghost use Rattle.ig_cli.specs.Running.{ending_of_local, ending_of_run};
+ghost use Rattle.ig_stage.specs.Errors.{ending_of_make};
+ghost use Rattle.ig_stage.specs.Running.{ending_of_local, ending_of_run};
 ghost use Rattle.ig_cli.specs.Report.{shown_line, status_of, Ends, Tells};
 
-use crate::making::MakeError;
-use crate::running::LocalError;
-use crate::task::RunError;
+use crate::done::four_digits;
 use ig_cseg::CsegFault;
 use ig_cutout::Cause;
 use ig_info::InfoError;
+use ig_stage::{LocalError, MakeError};
+use ig_task::RunError;
 use std::alloc::{AllocError, Global};
 
 /// The line on standard error of a command that ended early.
@@ -51,13 +50,6 @@ impl FaultLine {
             FaultLine::Memory => b"igneous: out of memory\n",
         }
     }
-}
-
-/// The line of tasks that were run.
-pub fn ran_line(alloc: Global, tasks: u64) -> Result<String, AllocError>
-    ensures { IfOk result (λ line. string_bytes line ≡ line_of_ran Xfer tasks) }
-{
-    format!(in alloc; "ran xfer tasks {tasks}\n")
 }
 
 fn missing(alloc: Global, path: &str) -> Result<String, AllocError>
@@ -102,10 +94,35 @@ fn task_too_large(alloc: Global, voxels: u128) -> Result<String, AllocError>
     format!(in alloc; "igneous: task too large {voxels}\n")
 }
 
+fn too_many_parts(alloc: Global, count: u64) -> Result<String, AllocError>
+    ensures { IfOk result (λ line. string_bytes line ≡ fault_line (refusal_text (refusal.TooManyParts count))) }
+{
+    format!(in alloc; "igneous: too many parts {count}\n")
+}
+
 fn not_empty(alloc: Global, path: &str) -> Result<String, AllocError>
     ensures { IfOk result (λ line. string_bytes line ≡ fault_line (refusal_text (refusal.NotEmpty path.now))) }
 {
     format!(in alloc; "igneous: not empty {path}\n")
+}
+
+fn too_many_stages(alloc: Global, count: u32) -> Result<String, AllocError>
+    ensures { IfOk result (λ line. string_bytes line ≡ fault_line (refusal_text (refusal.TooManyStages count))) }
+{
+    format!(in alloc; "igneous: too many stages {count}\n")
+}
+
+fn taken(alloc: Global, stage: u32) -> Result<String, AllocError>
+    ensures { IfOk result (λ line. string_bytes line ≡ fault_line (refusal_text (refusal.Taken stage))) }
+{
+    let number = four_digits(alloc, stage)?;
+    format!(in alloc; "igneous: taken by stage {number}\n")
+}
+
+fn bad_record(alloc: Global, path: &str, member: &str) -> Result<String, AllocError>
+    ensures { IfOk result (λ line. string_bytes line ≡ fault_line (refusal_text (refusal.BadRecord path.now member.now))) }
+{
+    malformed_at(alloc, path, "record member", member)
 }
 
 /// The line of a malformed file with this cause.
@@ -185,15 +202,21 @@ fn refused(line: Result<String, AllocError>) -> FaultLine
     }
 }
 
-/// The line of a copy that was not made.
+/// The line of a stage that was not made.
 fn line_of_make(alloc: Global, e: &MakeError) -> FaultLine
     ensures { Tells (Ends (ending_of_make e.now)) result }
 {
     match e {
+        MakeError::Absent { path } => refused(missing(alloc, path.as_str())),
+        MakeError::BadRecord { path, member } => {
+            refused(bad_record(alloc, path.as_str(), member.as_str()))
+        }
+        MakeError::TooManyStages { count } => refused(too_many_stages(alloc, *count)),
         MakeError::Missing { path } => refused(missing(alloc, path.as_str())),
         MakeError::BadInfo { path, cause } => refused(bad_info(alloc, path.as_str(), cause)),
         MakeError::NoScale { mip, count } => refused(no_scale(alloc, *mip, *count)),
         MakeError::DestNotEmpty { path } => refused(not_empty(alloc, path.as_str())),
+        MakeError::Taken { stage } => refused(taken(alloc, *stage)),
         MakeError::ShapeUnfit { axis } => refused(shape_unfit(alloc, *axis)),
         MakeError::TooManyTasks { count } => refused(too_many_tasks(alloc, *count)),
         MakeError::TaskTooLarge { voxels } => refused(task_too_large(alloc, *voxels)),
@@ -209,11 +232,12 @@ fn line_of_run(alloc: Global, e: &RunError) -> FaultLine
     match e {
         RunError::Missing { path } => refused(missing(alloc, path.as_str())),
         RunError::Malformed { path, cause } => refused(bad_file(alloc, path.as_str(), cause)),
+        RunError::TooManyParts { count } => refused(too_many_parts(alloc, *count)),
         RunError::Memory => FaultLine::Memory,
     }
 }
 
-/// The line of a command without a queue that ended early.
+/// The line of a command that ended early.
 pub fn line_of_local(alloc: Global, e: &LocalError) -> FaultLine
     ensures { Tells (Ends (ending_of_local e.now)) result }
 {
@@ -232,12 +256,6 @@ mod tests {
     fn info_path(alloc: Global, rt: &impl Abort) -> Path {
         let path = Path::new(alloc, "out/info").expect(rt, "memory");
         path.expect(rt, "a path")
-    }
-
-    #[test]
-    fn tells_what_ran(rt: HostRuntime) {
-        let line = ran_line(rt.alloc(), 12).expect(&rt, "memory");
-        assert_eq!(rt; line.as_str(), "ran xfer tasks 12\n");
     }
 
     #[test]
@@ -296,6 +314,12 @@ mod tests {
         assert_eq!(rt;
             line.as_bytes(),
             b"igneous: malformed out/info wrong length 7 want 8\n".as_slice()
+        );
+        let e = LocalError::Run(RunError::TooManyParts { count: 1000001 });
+        let line = line_of_local(rt.alloc(), &e);
+        assert_eq!(rt;
+            line.as_bytes(),
+            b"igneous: too many parts 1000001\n".as_slice()
         );
     }
 }

@@ -2,12 +2,13 @@
 ghost use Rattle.std.specs.Prelude.{◌≡◌, ◌<◌, ◌≤◌, ◌&&◌, ◌∷◌, List, ℕ, length, map, option_map, IfOk, IfSome, IsNone, OnOk};
 ghost use Rattle.std.specs.Str.{all_ascii_digits};
 ghost use Rattle.ig_space.specs.Path.{within};
-ghost use Rattle.ig_meaning.specs.Options.{begins_with, cut_at, number_in, number_of, parts_of, side_of, sides_of, values_of};
-ghost use Rattle.ig_cli.specs.Options.{HasSides, both, lent};
+ghost use Rattle.ig_meaning.specs.Options.{begins_with, cut_at, is_short_path, number_in, number_of, parts_of, side_of, sides_of, values_of};
+ghost use Rattle.ig_stage.specs.Requests.{HasSides};
+ghost use Rattle.ig_cli.specs.Options.{both, lent};
 ghost use Rattle.ig_cli.specs.Parts.{read_on, shown, with_last_option, with_last_rest};
 ghost use Rattle.ig_cli.specs.Words.{texts_of};
 
-use ig_space::Point;
+use ig_space::{Point, is_path_text};
 use std::alloc::{AllocError, Global};
 
 /// The options with their values, and the remaining words, each in order.
@@ -30,6 +31,9 @@ enum Next<'a> {
 
 /// The longest side of a box or a chunk that an option may give, in voxels.
 const LONGEST_SIDE: u64 = 16777216;
+
+/// The most bytes of the path of a layer or a queue.
+const MOST_BYTES: usize = 100;
 
 /// The most digits of a number.
 const MOST_DIGITS: usize = 10;
@@ -79,6 +83,13 @@ fn cut(text: &str, mark: char) -> Option<(&str, &str)>
     ensures { option_map both result ≡ cut_at mark text.now }
 {
     text.split_once(mark)
+}
+
+/// Whether the word is a path of at most 100 bytes.
+pub fn is_short_path(word: &str) -> bool
+    ensures { result ≡ is_short_path word.now }
+{
+    is_path_text(word.as_bytes()) && word.len() <= MOST_BYTES
 }
 
 /// A side of a box or a chunk, in voxels.
@@ -138,14 +149,21 @@ impl<'a> Parts<'a> {
     }
 }
 
+/// Whether the first byte is this one.
+pub fn begins_with(text: &[u8], mark: u8) -> bool
+    ensures { result ≡ begins_with mark text.now }
+{
+    match text {
+        [first, ..] => *first == mark,
+        [] => false,
+    }
+}
+
 /// Whether the word begins with a dash, as options do.
 fn is_marked(word: &str) -> bool
     ensures { result ≡ begins_with 45 word.now }
 {
-    match word.as_bytes() {
-        [first, ..] => *first == b'-',
-        [] => false,
-    }
+    begins_with(word.as_bytes(), b'-')
 }
 
 /// Takes a word that is no option's value, and stands before `--`. Gives what the word after it is.

@@ -1,13 +1,12 @@
 //! Prints what a command that ended has to say, and gives its status.
 ghost use Rattle.std.specs.Prelude.{◌≡◌, ◌≤◌, ◌⊎◌};
 ghost use Rattle.ig_defs.specs.Causes.{Rose};
-ghost use Rattle.ig_record.specs.declared.stage.Kind.TheVariants.{Xfer};
 ghost use Rattle.ig_meaning.specs.Ending.{Finished};
-ghost use Rattle.ig_meaning.specs.Lines.{ran_line as line_of_ran};
-ghost use Rattle.ig_cli.specs.Report.{ended_of, ended_of_error, err_line, out_line, shown_line, status_of, Ends, HasTaken, HasTold, IsStatusOf, Tells};
+ghost use Rattle.ig_cli.specs.Report.{ended_of, done_text, ended_of_error, err_line, out_line, shown_line, status_of, Ends, HasTaken, HasTold, IsStatusOf, Tells};
 
-use crate::lines::{FaultLine, line_of_local, ran_line};
-use crate::running::LocalError;
+use crate::done::{Done, lines_of};
+use crate::lines::{FaultLine, line_of_local};
+use ig_stage::LocalError;
 use ig_store::Sink;
 use std::alloc::Global;
 
@@ -39,31 +38,31 @@ fn complain<E: Sink>(line: &FaultLine, err: &mut E) -> u8
     line.status()
 }
 
-/// Writes the line on standard output, and gives the status.
-fn tell<O: Sink>(line: &str, out: &mut O) -> u8
+/// Writes lines on standard output, and gives the status.
+fn tell<O: Sink>(lines: &str, out: &mut O) -> u8
     ensures status { (result ≡ 0) ⊎ (result ≡ 9) }
     ensures nine { result ≡ 9 → Rose (O.faults out.old) (O.faults out.new) }
     ensures later { O.faults out.old ≤ O.faults out.new }
-    ensures out { O.tells → HasTaken line.now result (O.taken out.old) (O.taken out.new) }
+    ensures out { O.tells → HasTaken lines.now result (O.taken out.old) (O.taken out.new) }
 {
-    match out.write(line.as_bytes()) {
+    match out.write(lines.as_bytes()) {
         Ok(()) => 0,
         Err(_) => 9,
     }
 }
 
-/// Prints that tasks were run, and gives the status.
-fn report_done<O: Sink, E: Sink>(alloc: Global, tasks: u64, out: &mut O, err: &mut E) -> u8
+/// Prints what was done, and gives the status.
+fn report_done<O: Sink, E: Sink>(alloc: Global, done: &Done, out: &mut O, err: &mut E) -> u8
     ensures status { IsStatusOf (Ends Finished) result }
     ensures nine { result ≡ 9 → Rose (O.faults out.old) (O.faults out.new) }
     ensures out_later { O.faults out.old ≤ O.faults out.new }
     ensures err_later { E.faults err.old ≤ E.faults err.new }
-    ensures out { O.tells → HasTaken (line_of_ran Xfer tasks) result (O.taken out.old) (O.taken out.new) }
+    ensures out { O.tells → HasTaken (done_text done.now) result (O.taken out.old) (O.taken out.new) }
     ensures err { E.tells → HasTold (err_line (Ends Finished) result) (E.faults err.old) (E.faults err.new) (E.taken err.old) (E.taken err.new) }
     ensures silent { (result ≡ 0) ⊎ (result ≡ 9) → err.new ≡ err.old }
 {
-    match ran_line(alloc, tasks) {
-        Ok(line) => tell(line.as_str(), out),
+    match lines_of(alloc, done) {
+        Ok(lines) => tell(lines.as_str(), out),
         Err(_) => complain(&FaultLine::Memory, err),
     }
 }
@@ -84,7 +83,7 @@ fn report_error<E: Sink>(alloc: Global, e: &CommandError, err: &mut E) -> u8
 /// command's; 5 where it refused; 6 at a fault of the store; 7 where memory ran out; 9 at a fault of the output.
 pub fn report<O: Sink, E: Sink>(
     alloc: Global,
-    outcome: &Result<u64, CommandError>,
+    outcome: &Result<Done, CommandError>,
     out: &mut O,
     err: &mut E,
 ) -> u8
@@ -97,7 +96,7 @@ pub fn report<O: Sink, E: Sink>(
     ensures silent { (result ≡ 0) ⊎ (result ≡ 9) → err.new ≡ err.old }
 {
     match outcome {
-        Ok(tasks) => report_done(alloc, *tasks, out, err),
+        Ok(done) => report_done(alloc, done, out, err),
         Err(e) => report_error(alloc, e, err),
     }
 }

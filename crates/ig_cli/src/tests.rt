@@ -6,7 +6,7 @@ use std::process::Abort;
 use std::test::Fail as Failed;
 use std::thread::Threads;
 
-const INFO: &str =
+pub(crate) const INFO: &str =
     r#"{"data_type":"uint64","num_channels":1,"scales":[{"chunk_sizes":[[1,1,1]],"encoding":"raw","key":"8_8_8","resolution":[8,8,8],"size":[1,1,1]}],"type":"segmentation"}"#;
 
 const COPIED: &str =
@@ -17,7 +17,7 @@ const CHUNK: &str = "seg/8_8_8/0-1_0-1_0-1";
 const COPY: &str = "copy/8_8_8/0-1_0-1_0-1";
 
 /// The label 7.
-const SEVEN: [u8; 8] = [7, 0, 0, 0, 0, 0, 0, 0];
+pub(crate) const SEVEN: [u8; 8] = [7, 0, 0, 0, 0, 0, 0, 0];
 
 /// What a command left and printed.
 #[derive(Drop)]
@@ -40,7 +40,7 @@ pub(crate) fn put(
 }
 
 /// A layer of one voxel with this info, and this text of its chunk.
-fn layer(alloc: Global, info: &str, chunk: &[u8]) -> Result<FileMap, Failed> {
+pub(crate) fn layer(alloc: Global, info: &str, chunk: &[u8]) -> Result<FileMap, Failed> {
     let mut files = FileMap::new(alloc);
     put(alloc, &mut files, "seg/info", info.as_bytes())?;
     put(alloc, &mut files, CHUNK, chunk)?;

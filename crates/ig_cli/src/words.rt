@@ -1,40 +1,30 @@
 //! The words of a command: `image xfer SRC DEST [--mip N] [--chunk-size X,Y,Z] [--shape X,Y,Z]
-//! [--encoding E] [--block-size X,Y,Z]`.
-ghost use Rattle.std.specs.Prelude.{◌≡◌, ◌≤◌, IfOk, IfSome, List, ℕ, codes, map, option_map, true};
+//! [--encoding E] [--block-size X,Y,Z] [--queue fq://PATH]`.
+ghost use Rattle.std.specs.Prelude.{◌≡◌, ◌≤◌, ◌&&◌, IfOk, IfSome, List, ℕ, codes, map, option_map, true};
 ghost use Rattle.std.specs.List.{list_all};
 ghost use Rattle.ig_space.specs.Path.{is_path};
-ghost use Rattle.ig_meaning.specs.Options.{number_in, value_or, values_of};
-ghost use Rattle.ig_meaning.specs.Words.{are_layers, coding_given, coding_of, copy_between, is_copy_option, is_layer, request_of, sides_given};
-ghost use Rattle.ig_cli.specs.Options.{HasSides, both};
+ghost use Rattle.ig_meaning.specs.Options.{is_short_path, number_in, value_or, values_of};
+ghost use Rattle.ig_meaning.specs.QueueWords.{is_apart};
+ghost use Rattle.ig_meaning.specs.Words.{are_layers, coding_given, coding_of, command_of, command_with, copy_between, copy_in, is_copy_option, request_of, sides_given};
+ghost use Rattle.ig_stage.specs.Requests.{HasLimits, HasSides, new_layer, shown_coding, shown_request};
+ghost use Rattle.ig_cli.specs.Options.{both, text_of};
 ghost use Rattle.ig_cli.specs.Parts.{shown};
-ghost use Rattle.ig_cli.specs.Words.{HasLimits, HasSizes, Reads, request_with, shown_coding, shown_request, texts_of};
+ghost use Rattle.ig_cli.specs.Words.{HasSizes, IsLawful, request_with, shown_command, texts_of};
 
-use crate::options::{Parts, number_in, parts_of, sides_of, value_of};
-use ig_space::{Path, Point, is_path_text};
+use crate::options::{Parts, is_short_path, number_in, parts_of, sides_of, value_of};
+use crate::queue_words::{is_apart, queue_given};
+use ig_record::Kind;
+use ig_space::{Path, Point};
+use ig_stage::{Coding, Request};
 use std::alloc::{AllocError, Global};
 
-/// How the chunks of a new layer are to be written.
-#[derive(Clone, Copy, Debug, PartialEq, Eq)]
-pub enum Coding {
-    Raw,
-    Cseg,
-}
-
-/// What a command is asked to do: to copy a scale of a layer into a new layer.
+/// What the words of a command ask for.
 #[derive(Debug, Drop)]
-pub struct Request {
-    pub source: Path,
-    pub dest: Path,
-    /// The number of the scale.
-    pub mip: u32,
-    /// The size of the new chunks in voxels, where it is given.
-    pub chunk: Option<Point>,
-    /// The size of a task's box in voxels, where it is given.
-    pub shape: Option<Point>,
-    /// How the new chunks are written, where it is given.
-    pub encoding: Option<Coding>,
-    /// The size of the new chunks' blocks in voxels, where it is given.
-    pub block: Option<Point>,
+pub enum Command {
+    /// A copy that the command runs itself.
+    Copy(Request),
+    /// A copy whose stage is put into the queue in this directory.
+    Enqueue { queue: Path, request: Request },
 }
 
 /// What the options of a copy give.
@@ -47,24 +37,14 @@ struct Sizes {
     block: Option<Point>,
 }
 
-/// The most bytes of a layer's path.
-const LONGEST_LAYER: usize = 100;
-
 /// The largest number of a scale.
 const LARGEST_MIP: u64 = 99;
-
-/// Whether the word may name a layer.
-fn is_layer_word(word: &str) -> bool
-    ensures { result ≡ is_layer word.now }
-{
-    is_path_text(word.as_bytes()) && word.len() <= LONGEST_LAYER
-}
 
 /// Whether the words may name a layer and a new one.
 fn are_layer_words(source: &str, dest: &str) -> bool
     ensures { result ≡ are_layers source.now dest.now }
 {
-    is_layer_word(source) && is_layer_word(dest) && source != dest
+    is_short_path(source) && is_short_path(dest) && source != dest
 }
 
 /// The path of a word that is one.
@@ -85,6 +65,7 @@ fn is_copy_option(name: &str) -> bool
         || name == "--shape"
         || name == "--encoding"
         || name == "--block-size"
+        || name == "--queue"
 }
 
 /// Whether a copy has options with these names.
@@ -171,9 +152,11 @@ fn copy_between(alloc: Global, parts: &Parts) -> Result<Option<Request>, AllocEr
         return Ok(None);
     };
     Ok(Some(Request {
+        kind: Kind::Xfer,
         source: path_of(alloc, source)?,
-        dest: path_of(alloc, dest)?,
+        dest: Some(path_of(alloc, dest)?),
         mip: sizes.mip,
+        levels: 0,
         chunk: sizes.chunk,
         shape: sizes.shape,
         encoding: sizes.encoding,
@@ -181,9 +164,57 @@ fn copy_between(alloc: Global, parts: &Parts) -> Result<Option<Request>, AllocEr
     }))
 }
 
+/// Whether both layers of a copy lie apart from the queue.
+fn are_apart(queue: &str, request: &Request) -> bool
+    requires { HasLimits request.now }
+    ensures { result ≡ (is_apart queue.now request.now.source && is_apart queue.now (new_layer request.now)) }
+{
+    match &request.dest {
+        Some(dest) => is_apart(queue, request.source.as_str()) && is_apart(queue, dest.as_str()),
+        None => false,
+    }
+}
+
+/// The copy, run by the command itself, or put into the queue that is given; `None` exactly where a layer lies in that
+/// queue, or the other way round.
+fn command_with(
+    alloc: Global,
+    queue: Option<&str>,
+    request: Request,
+) -> Result<Option<Command>, AllocError>
+    requires queue { IfSome queue (λ path. is_short_path path.now ≡ true) }
+    requires limits { HasLimits request }
+    ensures value { IfOk result (λ command. option_map shown_command command ≡ command_with (option_map text_of queue.entry) (shown_request request)) }
+    ensures lawful { IfOk result (λ command. IfSome command IsLawful) }
+{
+    let Some(queue) = queue else {
+        return Ok(Some(Command::Copy(request)));
+    };
+    if !are_apart(queue, &request) {
+        return Ok(None);
+    }
+    let queue = path_of(alloc, queue)?;
+    Ok(Some(Command::Enqueue { queue, request }))
+}
+
+/// The command that these parts of the words after `image xfer` ask for.
+fn copy_in(alloc: Global, parts: &Parts) -> Result<Option<Command>, AllocError>
+    ensures value { IfOk result (λ command. option_map shown_command command ≡ copy_in (shown parts.now)) }
+    ensures lawful { IfOk result (λ command. IfSome command IsLawful) }
+{
+    let Some(queue) = queue_given(&parts.options) else {
+        return Ok(None);
+    };
+    let Some(request) = copy_between(alloc, parts)? else {
+        return Ok(None);
+    };
+    command_with(alloc, queue, request)
+}
+
 /// What the words ask for; `None` exactly where they are no command's words.
-pub fn read_words(alloc: Global, words: &Vec<String>) -> Result<Option<Request>, AllocError>
-    ensures { IfOk result (Reads (texts_of words.now.items)) }
+pub fn read_words(alloc: Global, words: &Vec<String>) -> Result<Option<Command>, AllocError>
+    ensures value { IfOk result (λ command. option_map shown_command command ≡ command_of (texts_of words.now.items)) }
+    ensures lawful { IfOk result (λ command. IfSome command IsLawful) }
 {
     let [first, second, words @ ..] = words.as_slice() else {
         return Ok(None);
@@ -194,5 +225,5 @@ pub fn read_words(alloc: Global, words: &Vec<String>) -> Result<Option<Request>,
     let Some(parts) = parts_of(alloc, words)? else {
         return Ok(None);
     };
-    copy_between(alloc, &parts)
+    copy_in(alloc, &parts)
 }

@@ -1,5 +1,7 @@
-use crate::words::{Coding, read_words};
-use ig_space::Point;
+use crate::rule_of;
+use crate::words::{Command, read_words};
+use ig_space::{Path, Point};
+use ig_stage::{Coding, Request};
 use std::alloc::{AllocError, Global};
 use std::test::Fail;
 
@@ -10,6 +12,15 @@ fn words_of(alloc: Global, text: &str) -> Result<Vec<String>, AllocError> {
         words.push(String::from_str(alloc, word)?)?;
     }
     Ok(words)
+}
+
+/// The copy that the command of a text runs itself.
+fn copy_of(alloc: Global, text: &str) -> Result<Request, Fail> {
+    let words = words_of(alloc, text)?;
+    match read_words(alloc, &words)? {
+        Some(Command::Copy(request)) => Ok(request),
+        _ => Err(Fail::from("no copy")),
+    }
 }
 
 fn point(x: u64, y: u64, z: u64) -> Option<Point> {
@@ -37,7 +48,6 @@ fn other_words_are_no_command(rt: HostRuntime) -> Result<(), Fail> {
         "layer xfer seg copy",
         "--mip 1 image xfer seg copy",
         "image --mip=1 xfer seg copy",
-        "image xfer seg copy --queue=fq://q",
         "image xfer seg copy --encodings raw",
         "image xfer seg copy --block 8,8,8",
         "image xfer seg copy --help",
@@ -149,10 +159,13 @@ fn words_ask_for_copies(rt: HostRuntime) -> Result<(), Fail> {
         ),
     ] {
         let line = format!(in rt.alloc(); "image xfer {text}")?;
-        let words = words_of(rt.alloc(), line.as_str())?;
-        let request = read_words(rt.alloc(), &words)?.ok_or("no command")?;
+        let request = copy_of(rt.alloc(), line.as_str())?;
         assert_eq!(rt; request.source.as_str(), "seg", "at {text}");
-        assert_eq!(rt; request.dest.as_str(), "copy", "at {text}");
+        assert_eq!(rt;
+            request.dest.as_ref().map(Path::as_str),
+            Some("copy"),
+            "at {text}"
+        );
         assert_eq!(rt; request.mip, mip, "at {text}");
         assert_eq!(rt; request.chunk, chunk, "at {text}");
         assert_eq!(rt; request.shape, shape, "at {text}");
@@ -180,8 +193,7 @@ fn words_ask_for_encodings(rt: HostRuntime) -> Result<(), Fail> {
         ),
     ] {
         let line = format!(in rt.alloc(); "image xfer seg copy {options}")?;
-        let words = words_of(rt.alloc(), line.as_str())?;
-        let request = read_words(rt.alloc(), &words)?.ok_or("no command")?;
+        let request = copy_of(rt.alloc(), line.as_str())?;
         assert_eq!(rt; request.encoding, encoding, "at {options}");
         assert_eq!(rt; request.block, block, "at {options}");
         assert_eq!(rt; request.chunk, None, "at {options}");
@@ -190,17 +202,65 @@ fn words_ask_for_encodings(rt: HostRuntime) -> Result<(), Fail> {
 }
 
 #[test]
-fn layers_have_at_most_100_bytes(rt: HostRuntime) -> Result<(), Fail> {
+fn paths_have_at_most_100_bytes(rt: HostRuntime) -> Result<(), Fail> {
     for (count, is_command) in [(100, true), (101, false)] {
         let layer = letters(rt.alloc(), count)?;
         for line in [
             format!(in rt.alloc(); "image xfer {layer} copy/a")?,
             format!(in rt.alloc(); "image xfer seg {layer}")?,
+            format!(in rt.alloc(); "image xfer seg copy --queue fq://{layer}")?,
         ] {
             let words = words_of(rt.alloc(), line.as_str())?;
-            let request = read_words(rt.alloc(), &words)?;
-            assert_eq!(rt; request.is_some(), is_command, "at {line}");
+            let command = read_words(rt.alloc(), &words)?;
+            assert_eq!(rt; command.is_some(), is_command, "at {line}");
         }
+    }
+    Ok(())
+}
+
+/// Whether a copy with these options is put into this queue.
+fn goes_into(alloc: Global, options: &str, queue: &str) -> Result<bool, Fail> {
+    let line = format!(in alloc; "image xfer seg copy {options}")?;
+    let words = words_of(alloc, line.as_str())?;
+    let rule = rule_of(alloc, &words)?;
+    match &rule.queue {
+        Some(path) => Ok(path.as_str() == queue),
+        None => Ok(false),
+    }
+}
+
+#[test]
+fn words_name_queues(rt: HostRuntime) -> Result<(), Fail> {
+    for (options, queue) in [
+        ("--queue fq://q", "q"),
+        ("--mip 1 --queue=fq://queues/a", "queues/a"),
+        ("--queue fq://seg.queue", "seg.queue"),
+        ("--queue fq://copy2/queue", "copy2/queue"),
+    ] {
+        assert!(rt; goes_into(rt.alloc(), options, queue)?, "at {options}");
+    }
+    Ok(())
+}
+
+#[test]
+fn faulty_queues_are_no_command(rt: HostRuntime) -> Result<(), Fail> {
+    for options in [
+        "--queue q",
+        "--queue fq:/q",
+        "--queue fq://",
+        "--queue fq:///q",
+        "--queue FQ://q",
+        "--queue fq://q/",
+        "--queue fq://q --queue fq://q",
+        "--queue fq://a/seg",
+        "--queue fq://a",
+        "--queue fq://a/seg/q",
+        "--queue fq://a/copy",
+        "--queue fq://a/copy/q/r",
+    ] {
+        let line = format!(in rt.alloc(); "image xfer a/seg a/copy {options}")?;
+        let words = words_of(rt.alloc(), line.as_str())?;
+        assert!(rt; read_words(rt.alloc(), &words)?.is_none(), "at {options}");
     }
     Ok(())
 }

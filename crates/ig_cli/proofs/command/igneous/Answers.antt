@@ -1,6 +1,8 @@
 use Rattle.ig_cli.proofs.Completes.{complete}
 use Rattle.ig_cli.proofs.Performs.{fault_at, outcome}
 use Rattle.ig_cli.proofs.Promises.{copied, in_order, in_sequence, is_a_status, only_puts, printed, printed_part, refused_judged, to_the_refusal, told_refusal}
+use Rattle.ig_cli.proofs.Drains.{holds_exactly}
+use Rattle.ig_cli.proofs.Makes.{made, printed_made, printed_made_part}
 use Rattle.ig_cli.proofs.command.igneous.Goals as goal
 
 pub returns-clause-statuses : goal.returns-clause-statuses
@@ -37,3 +39,17 @@ returns-clause-printed_part g c = λ tells out_tells. printed_part _ _ _ _ _ _ _
 pub returns-clause-told_refusal : goal.returns-clause-told_refusal
 returns-clause-told_refusal g c = λ tells err_tells quiet.
     told_refusal _ _ _ _ _ _ c.report.ensures.status (c.report.ensures.err err_tells) quiet _ _ _ (fault_at _ _ _ _ (c.perform-outcome.ensures.performed tells))
+
+pub returns-clause-made : goal.returns-clause-made
+returns-clause-made g c = λ tells zero q some. made _ _ _ _ _ (c.perform-outcome.ensures.performed tells) c.report.ensures.status q some zero
+
+pub returns-clause-printed_made : goal.returns-clause-printed_made
+returns-clause-printed_made g c = λ tells out_tells zero q some.
+    printed_made _ _ _ _ _ (c.perform-outcome.ensures.performed tells) c.report.ensures.status q some _ _ (c.report.ensures.out out_tells) zero
+
+pub returns-clause-printed_made_part : goal.returns-clause-printed_made_part
+returns-clause-printed_made_part g c = λ tells out_tells nine q some.
+    printed_made_part _ _ _ _ _ (c.perform-outcome.ensures.performed tells) c.report.ensures.status q some _ _ (c.report.ensures.out out_tells) nine
+
+pub returns-clause-drained : goal.returns-clause-drained
+returns-clause-drained g c = λ tells q some legal. holds_exactly q _ (c.perform-outcome.ensures.legal tells q some legal)

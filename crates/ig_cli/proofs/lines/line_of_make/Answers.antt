@@ -1,13 +1,13 @@
 use Rattle.std.proofs.Common.{ap, refl}
 use Rattle.ig_meaning.specs.Refusal as refusal
-use Rattle.ig_cli.specs.Making.{ending_of_make}
+use Rattle.ig_stage.specs.Errors.{ending_of_make}
 use Rattle.ig_cli.proofs.Reports.{tells_refusal}
 use Rattle.ig_cli.proofs.lines.line_of_make.Goals as goal
 
 pub returns-in-Missing : goal.returns-in-Missing
 returns-in-Missing c =
-    tells_refusal (refusal.Missing c.as_str.result.now) (refusal.Missing c.in-Missing.path) _ _ (ap (λ p. refusal.Missing p) c.as_str.ensures.value)
-    (ap ending_of_make c.in-Missing.is) (c.refused.ensures _ c.missing.ensures)
+    tells_refusal (refusal.Missing c.as_str-in-Missing.result.now) (refusal.Missing c.in-Missing.path) _ _ (ap (λ p. refusal.Missing p) c.as_str-in-Missing.ensures.value)
+    (ap ending_of_make c.in-Missing.is) (c.refused-in-Missing.ensures _ c.missing-in-Missing.ensures)
 
 pub returns-in-BadInfo : goal.returns-in-BadInfo
 returns-in-BadInfo c =
@@ -40,3 +40,24 @@ pub returns-in-TaskTooLarge : goal.returns-in-TaskTooLarge
 returns-in-TaskTooLarge c =
     tells_refusal (refusal.TaskTooLarge c.in-TaskTooLarge.voxels) (refusal.TaskTooLarge c.in-TaskTooLarge.voxels) _ _ refl
     (ap ending_of_make c.in-TaskTooLarge.is) (c.refused-in-TaskTooLarge.ensures (refusal.TaskTooLarge c.in-TaskTooLarge.voxels) c.task_too_large.ensures)
+
+pub returns-in-Absent : goal.returns-in-Absent
+returns-in-Absent c =
+    tells_refusal (refusal.Missing c.as_str.result.now) (refusal.Missing c.in-Absent.path) _ _ (ap (λ p. refusal.Missing p) c.as_str.ensures.value)
+    (ap ending_of_make c.in-Absent.is) (c.refused.ensures _ c.missing.ensures)
+
+pub returns-in-TooManyStages : goal.returns-in-TooManyStages
+returns-in-TooManyStages c =
+    tells_refusal (refusal.TooManyStages c.in-TooManyStages.count) (refusal.TooManyStages c.in-TooManyStages.count) _ _ refl
+    (ap ending_of_make c.in-TooManyStages.is) (c.refused-in-TooManyStages.ensures (refusal.TooManyStages c.in-TooManyStages.count) c.too_many_stages.ensures)
+
+pub returns-in-Taken : goal.returns-in-Taken
+returns-in-Taken c =
+    tells_refusal (refusal.Taken c.in-Taken.stage) (refusal.Taken c.in-Taken.stage) _ _ refl
+    (ap ending_of_make c.in-Taken.is) (c.refused-in-Taken.ensures (refusal.Taken c.in-Taken.stage) c.taken.ensures)
+
+pub returns-in-BadRecord : goal.returns-in-BadRecord
+returns-in-BadRecord c =
+    tells_refusal (refusal.BadRecord c.as_str-in-BadRecord.result.now c.as_str-in-BadRecord-2.result.now) (refusal.BadRecord c.in-BadRecord.path c.in-BadRecord.member) _ _
+    (λ i. refusal.BadRecord (c.as_str-in-BadRecord.ensures.value i) (c.as_str-in-BadRecord-2.ensures i)) (ap ending_of_make c.in-BadRecord.is)
+    (c.refused-in-BadRecord.ensures (refusal.BadRecord c.as_str-in-BadRecord.result.now c.as_str-in-BadRecord-2.result.now) c.bad_record.ensures)
