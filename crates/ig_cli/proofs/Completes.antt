@@ -1,5 +1,5 @@
--- Where nothing keeps a command from running and no count of faults rises, it ends at 0 or 7.
-use Rattle.std.proofs.Common.{◌≡◌, ℕ, List, [], Option, None, Some, Result, refl, ap, sym, ◌∙◌, subst, inl, inr, ◌⊎◌}
+-- Where nothing keeps a command from its end and no count of faults rises, it ends at 0 or 7.
+use Rattle.std.proofs.Common.{◌≡◌, ℕ, List, [], Option, None, Some, Result, Err, refl, ap, sym, ◌∙◌, subst, inl, inr, ◌⊎◌}
 use Rattle.ig_defs.specs.Causes.{Rose}
 use Rattle.ig_defs.specs.Files.{Files}
 use Rattle.ig_defs.specs.Log.{Log, files_of}
@@ -13,7 +13,11 @@ use Rattle.ig_record.specs.declared.stage.Stage.{Stage}
 use Rattle.ig_meaning.specs.Stage.{info_files, sequential}
 use Rattle.ig_meaning.specs.Words.{Command, Enqueue, Request, command_of}
 use Rattle.ig_cli.specs.declared.report.CommandError.{CommandError}
+use Rattle.ig_cli.specs.declared.report.CommandError.TheVariants.{Local}
 use Rattle.ig_cli.specs.declared.done.Done.{Done}
+use Rattle.ig_stage.specs.CanMake.{CanMake, IsNoRefusal}
+use Rattle.ig_stage.specs.declared.error.LocalError.TheVariants.{Make}
+use Rattle.ig_stage.specs.declared.error.MakeError.{MakeError}
 use Rattle.ig_stage.specs.Errors.{ending_of_make}
 use Rattle.ig_cli.specs.Performed.{Performed, JudgesWords, enqueued, not_words, not_read, not_made, was_run}
 use Rattle.ig_cli.specs.Report.{Ended, Ends, NotWords, IsStatusOf, ended_of}
@@ -74,5 +78,32 @@ complete words old new result status store_before store_now out_before out_now i
     left (ended_of result) status is
     (λ not_words. has_command (command_of words) (files_of old) ready.stage ready.planned (judges.not_words not_words))
     (λ r. never_refuses words old new result r ready performed)
+    (λ failed. store_quiet (store_failed failed))
+    (λ nine. out_quiet (out_failed nine))
+
+-- ---- in a queue
+
+-- the error of a making that is no refusal
+making_goes_on : (e : MakeError) (r : Refusal) → IsNoRefusal (ending_of_make e) → Ends (ending_of_make e) ≡ Ends (Refuses r) → ⊥
+making_goes_on e r well is = subst IsNoRefusal (ends_same (ending_of_make e) (Refuses r) is) well
+
+-- by what the making gave
+pub enqueue_goes_on : (result : Result Done CommandError) (e : MakeError) (r : Refusal) → result ≡ Err (Local (Make e)) → IsNoRefusal (ending_of_make e) → ended_of result ≡ Ends (Refuses r) → ⊥
+enqueue_goes_on result e r is well ended = making_goes_on e r well (sym (ap ended_of is) ∙ ended)
+
+-- one command, two ways to name it
+pub can_as : (p q : List ℕ) (asked request : Request) (files : Files) → Some (Enqueue p asked) ≡ Some (Enqueue q request) → CanMake q request files → CanMake p asked files
+can_as p q asked request files same can =
+    let queue : p ≡ q = cc in
+    let wanted : asked ≡ request = cc in
+    subst (λ d. CanMake d asked files) (sym queue) (subst (λ w. CanMake q w files) (sym wanted) can)
+
+pub complete_made : (words : List (List ℕ)) (ended : Ended) (status store_before store_now out_before out_now : ℕ) (q : List ℕ) (request : Request)
+    → IsStatusOf ended status → JudgesWords words ended → (ended ≡ Ends StoreFailed → Rose store_before store_now) → (status ≡ 9 → Rose out_before out_now)
+    → command_of words ≡ Some (Enqueue q request) → ((r : Refusal) → ended ≡ Ends (Refuses r) → ⊥) → ¬ Rose store_before store_now → ¬ Rose out_before out_now → (status ≡ 0) ⊎ (status ≡ 7)
+complete_made words ended status store_before store_now out_before out_now q request is judges store_failed out_failed asked refuses store_quiet out_quiet =
+    left ended status is
+    (λ not_words. let no_way : None ≡ Some (Enqueue q request) = sym (judges.not_words not_words) ∙ asked in cc)
+    refuses
     (λ failed. store_quiet (store_failed failed))
     (λ nine. out_quiet (out_failed nine))

@@ -1,6 +1,7 @@
 -- What the words of the command line ask for.
 use Rattle.std.specs.Prelude.{◌≡◌, ◌≤◌, ℕ, true, List, length, IfSome, String, map, option_map, string_bytes}
 use Rattle.std.specs.declared.alloc.Global.{Global}
+use Rattle.ig_space.specs.Path.{is_path}
 use Rattle.ig_meaning.specs.QueueWords.{is_apart}
 use Rattle.ig_meaning.specs.Words as meaning
 use Rattle.ig_meaning.specs.Words.{Request}
@@ -29,8 +30,9 @@ abbrev pub shown_command : Command → meaning.Command
 shown_command (Copy request) = meaning.Copy (shown_request request)
 shown_command (Enqueue queue request) = meaning.Enqueue queue (shown_request request)
 
--- The queue's path is short, and the layers lie apart from it.
+-- The queue's directory is a short path, and the layers lie apart from it.
 pub record CanHold (queue : List ℕ) (request : reading.Request) : Type 0 where
+  pub path : is_path queue ≡ true
   pub short : length queue ≤ 100
   pub source_apart : is_apart queue request.source ≡ true
   pub dest_apart : IfSome request.dest (λ dest. is_apart queue dest ≡ true)

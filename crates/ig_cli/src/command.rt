@@ -4,19 +4,21 @@ ghost use Rattle.ig_defs.specs.Causes.{Rose};
 ghost use Rattle.ig_defs.specs.declared.step.Step.{Step};
 ghost use Rattle.ig_defs.specs.Log.{files_of, replay};
 ghost use Rattle.ig_store.specs.Sink.{TakesPrefix};
-ghost use Rattle.ig_defs.specs.Own.{moments_since, put_all, puts_of};
+ghost use Rattle.ig_defs.specs.Own.{moments_since, put_all, puts_of, steps_since};
 ghost use Rattle.ig_meaning.specs.Call.{IsCopied, IsReady, IsSequential, PutsAll, PutsInOrder};
-ghost use Rattle.ig_meaning.specs.Ending.{StoreFailed};
+ghost use Rattle.ig_meaning.specs.Ending.{Refuses, StoreFailed};
 ghost use Rattle.ig_meaning.specs.Fault.{fault_of, making_of};
 ghost use Rattle.ig_meaning.specs.Lines.{fault_line, made_line, memory_text, store_text, words_text};
 ghost use Rattle.ig_meaning.specs.Exactly.{HoldsExactly};
 ghost use Rattle.ig_meaning.specs.QueueActs.{HasMade};
+ghost use Rattle.ig_meaning.specs.Refusal.{Refusal};
 ghost use Rattle.ig_meaning.specs.Words as meaning;
 ghost use Rattle.ig_meaning.specs.Words.{command_of, queue_of_words};
 ghost use Rattle.ig_rule.specs.Facts.{Facts};
 ghost use Rattle.ig_rule.specs.QueueFiles.{queue_of};
 ghost use Rattle.ig_rule.specs.Sound.{Legal};
 ghost use Rattle.ig_rule.specs.Stages.{stages_in, Clear, Drained};
+ghost use Rattle.ig_stage.specs.CanMake.{AllOwn, CanMake};
 ghost use Rattle.ig_stage.specs.declared.error.LocalError.TheVariants as local;
 ghost use Rattle.ig_stage.specs.declared.error.MakeError.TheVariants as make;
 ghost use Rattle.ig_stage.specs.Pipeline.{local_rule};
@@ -105,6 +107,7 @@ fn enqueue<S: Store<Pipeline>>(
     ensures not_words { ended_of result ≡ NotWords → ⊥ }
     ensures performed { S.tells → (words : list (list ℕ)) → command_of words ≡ Some (meaning.Enqueue queue.now (shown_request request.now)) → Performed words (S.log store.old) (S.log store.new) result }
     ensures legal { S.tells → Legal stage_reader queue.now (S.log store.old) → Legal stage_reader queue.now (S.log store.new) }
+    ensures complete { S.tells → CanMake queue.now (shown_request request.now) (files_of (S.log store.old)) → AllOwn (steps_since (S.log store.old) (S.log store.new)) → (r : Refusal) → ended_of result ≡ Ends (Refuses r) → ⊥ }
 {
     Ok(Done::Made(make(alloc, store, queue, request)?))
 }
@@ -121,6 +124,7 @@ fn perform<S: Store<Pipeline>>(
     ensures words { JudgesWords (texts_of words.now.items) (ended_of result) }
     ensures performed { S.tells → Performed (texts_of words.now.items) (S.log store.old) (S.log store.new) result }
     ensures legal { S.tells → (q : list ℕ) → queue_of_words (texts_of words.now.items) ≡ Some q → Legal stage_reader q (S.log store.old) → Legal stage_reader q (S.log store.new) }
+    ensures complete { S.tells → (q : list ℕ) (request : meaning.Request) → command_of (texts_of words.now.items) ≡ Some (meaning.Enqueue q request) → CanMake q request (files_of (S.log store.old)) → AllOwn (steps_since (S.log store.old) (S.log store.new)) → (r : Refusal) → ended_of result ≡ Ends (Refuses r) → ⊥ }
 {
     match read_words(alloc, words)? {
         Some(Command::Copy(request)) => copy(alloc, store, request),
@@ -151,6 +155,7 @@ pub fn igneous<R: Threads + Sync, S: Store<Pipeline>, C: Clock, O: Sink, E: Sink
     ensures store_failed { result ≡ 6 → Rose (S.faults store.old) (S.faults store.new) }
     ensures out_failed { result ≡ 9 → Rose (O.faults out.old) (O.faults out.new) }
     ensures complete { S.tells → IsReady (texts_of words.now.items) (files_of (S.log store.old)) → ¬ Rose (S.faults store.old) (S.faults store.new) → ¬ Rose (O.faults out.old) (O.faults out.new) → (result ≡ 0) ⊎ (result ≡ 7) }
+    ensures complete_made { S.tells → (q : list ℕ) (request : meaning.Request) → command_of (texts_of words.now.items) ≡ Some (meaning.Enqueue q request) → Legal stage_reader q (S.log store.old) → CanMake q request (files_of (S.log store.old)) → AllOwn (steps_since (S.log store.old) (S.log store.new)) → ¬ Rose (S.faults store.old) (S.faults store.new) → ¬ Rose (O.faults out.old) (O.faults out.new) → (result ≡ 0) ⊎ (result ≡ 7) }
 
     // Without a queue, at status 0 the new layer has its info and exactly the wanted files, and nothing else changed.
     ensures copied { S.tells → result ≡ 0 → queue_of_words (texts_of words.now.items) ≡ None → IsCopied (texts_of words.now.items) (S.log store.old) (S.log store.new) }

@@ -50,6 +50,7 @@ makes_as allows q making other old new result same m = record {
   went = m.went;
   are = subst (λ (x : Making). AreMaking q result x m.ms) (sym (same m.ms)) m.are;
   looks = subst (λ (x : Making). LooksFirst x m.ms) (sym (same m.ms)) m.looks;
+  truly = m.truly;
 }
 
 -- the rule of a store does not change
@@ -77,6 +78,7 @@ too_many allows q request stages log n number many =
       went = went_nothing allows log;
       are = (by_failed (nat_lt (length stages) (10 ^ 4)) _ _ test ∙ ap (λ k. Refused (TooManyStages k)) (sym number), tt);
       looks = quiet_first (making_of_new request stages []) [] tt;
+      truly = λ look. tt;
     }
 
 -- its record may be put once it was looked at

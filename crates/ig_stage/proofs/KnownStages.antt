@@ -35,19 +35,19 @@ use Rattle.ig_stage.proofs.StageNames.{named_is, record_path_is}
 
 -- ---- a recorded stage is listed
 
-is_name : (dir : List ℕ) (n : ℕ) → is_path dir ≡ true → length dir ≤ 107 → IsNameIn dir (stage_file n)
+pub is_name : (dir : List ℕ) (n : ℕ) → is_path dir ≡ true → length dir ≤ 107 → IsNameIn dir (stage_file n)
 is_name dir n is short =
     let segment = is_segment-stage_file n in
     let len : length (stage_file n) ≡ 9 = length-stage_file n in
     let all : length (joined dir (stage_file n)) ≡ length dir + suc (length (stage_file n)) = length-append dir (47 ∷ stage_file n) in
     record { segment = segment; path = is_path-joined dir (stage_file n) is (is_path-segment (stage_file n) (omega (arith, len)) segment) (omega (arith, all, len, short)) }
 
-held : (b : Bool) (o : Option (List ℕ)) (text : List ℕ) → (if b then o else None) ≡ Some text → (b ≡ true) × (o ≡ Some text)
+pub held : (b : Bool) (o : Option (List ℕ)) (text : List ℕ) → (if b then o else None) ≡ Some text → (b ≡ true) × (o ≡ Some text)
 held true o text is = (refl, is)
 held false o text is = absurd (true≢false (sym (ap is_some is)))
 
 -- it stands there
-stands : (q : List ℕ) (n : ℕ) (text dir : List ℕ) (files : Files) → dir ≡ stages_dir q → IsNameIn dir (stage_file n) → queue_of q files (Record n) ≡ Some text → Stands files dir (stage_file n)
+pub stands : (q : List ℕ) (n : ℕ) (text dir : List ℕ) (files : Files) → dir ≡ stages_dir q → IsNameIn dir (stage_file n) → queue_of q files (Record n) ≡ Some text → Stands files dir (stage_file n)
 stands q n text dir files is named there =
     let at : joined dir (stage_file n) ≡ record_path q n = ap (λ d. joined d (stage_file n)) is ∙ record_path_is q (stage_file n) n refl in
     record { named = named; there = ap is_some (ap (file_at files) at ∙ (held (stage_fits n) (file_at files (record_path q n)) text there).1) }
@@ -96,7 +96,7 @@ counted_by : (name : List ℕ) (given : List (List ℕ)) (n : ℕ) → stage_fit
 counted_by name given n fits later (inl is) = subst (λ o. n < beyond o (record_count given)) (sym (named_is name n fits is)) (beyond_one n (record_count given))
 counted_by name given n fits later (inr among) = beyond_later (stage_named name) n (record_count given) (later among)
 
-counted : (given : List (List ℕ)) (n : ℕ) → stage_fits n ≡ true → Contains given (stage_file n) → n < record_count given
+pub counted : (given : List (List ℕ)) (n : ℕ) → stage_fits n ≡ true → Contains given (stage_file n) → n < record_count given
 counted [] n fits among = absurd (omega (arith, among.1))
 counted (name ∷ given) n fits among = counted_by name given n fits (counted given n fits) (first_or_later name given (stage_file n) among)
 

@@ -1,5 +1,6 @@
 pub mod Dids
 pub mod Turns
+pub mod OthersLooks
 pub mod InfoApart
 pub mod InfoTexts
 pub mod Drafts
@@ -39,3 +40,7 @@ pub mod Makers
 pub mod RecordPuts
 pub mod LastStages
 pub mod Enqueues
+pub mod SameStages
+pub mod NotRefused
+pub mod CountedRecords
+pub mod CanMakes

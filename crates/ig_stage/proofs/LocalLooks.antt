@@ -19,6 +19,7 @@ use Rattle.ig_stage.specs.Pipeline.{local_rule}
 use Rattle.ig_stage.specs.declared.error.MakeError.{MakeError}
 use Rattle.ig_stage.proofs.Dids.{quiet_files}
 use Rattle.ig_stage.proofs.Lookings.{look_only}
+use Rattle.ig_stage.proofs.OthersLooks.{others_look}
 
 -- A part of the making was looked at by these own acts.
 pub record LooksLocally {T : Type 0} (making : List Moment → Making) (next : T → List Moment → Making) (old new : Log) (result : Result T MakeError) : Type 0 where
@@ -44,7 +45,7 @@ moments_same files (m ∷ ms) look same =
     (moments_same files ms look.1 same.1 ∙ ap (λ now. moments_from now (acts_of ms)) (sym (after-quiet files m.act look.0)))
 
 lists_truly : (files : Files) (a : Act) (acts : List Act) → ListsTrulyThen files a → ListsTruly files acts → ListsTruly files (a ∷ acts)
-lists_truly files (act.List dir given) acts first rest = (first, rest)
+lists_truly files (act.List dir given) acts first rest = (first.only, rest)
 lists_truly files (act.Read path) acts first rest = rest
 lists_truly files (act.Put path bytes) acts first rest = rest
 lists_truly files (act.Move from to) acts first rest = rest
@@ -72,6 +73,6 @@ looks_locally {T = T} rule making next old new result local looks =
         files = kept ∙ sym (quiet_files (files_of old) (acts_of l.ms) (acts_quiet l.ms l.quiet));
       };
       quiet = acts_quiet l.ms l.quiet;
-      truly = all_truly (files_of old) l.ms (l.truly others_only_read) same;
+      truly = all_truly (files_of old) l.ms (l.truly (others_look (is_allowed local_rule) others_only_read old new l.ms l.went)) same;
       made = subst (λ ms. IsMakingOf {T = T} making next ms result) moments l.made;
     }

@@ -1,17 +1,13 @@
 -- What a call on the store tells of the making, and parts of a making one after the other.
-use Rattle.std.proofs.Common.{◌≡◌, ℕ, Bool, true, List, [], ◌∷◌, ◌++◌, append_assoc, Result, Ok, Err, ap, subst, sym, ◌∙◌, inl, inr, slice_index_or}
-use Rattle.std.proofs.lemmas.List.Elements.{All-contains_itself}
+use Rattle.std.proofs.Common.{◌≡◌, ℕ, Bool, true, List, [], ◌∷◌, ◌++◌, append_assoc, Result, Ok, Err, ap, subst, sym, ◌∙◌}
 use Rattle.std.proofs.lemmas.Slice.Eq.{bytes_eq-Decides}
 use Rattle.ig_defs.specs.declared.step.Act.{Act}
 use Rattle.ig_defs.specs.declared.step.Act.TheVariants as act
-use Rattle.ig_defs.specs.declared.step.Step.{Step}
 use Rattle.ig_defs.specs.declared.error.StoreError.{StoreError}
 use Rattle.ig_defs.specs.declared.error.StoreError.TheVariants as store
 use Rattle.ig_defs.specs.Files.{Files}
-use Rattle.ig_defs.specs.Log.{Log, ByOthers, OthersOnlyRead, after, files_of, replay}
-use Rattle.ig_defs.specs.Names.{Stands, StandsOnce}
-use Rattle.ig_defs.specs.Own.{Moment}
-use Rattle.ig_defs.specs.Replay.{after-quiet}
+use Rattle.ig_defs.specs.Log.{Log, files_of, replay}
+use Rattle.ig_defs.specs.Own.{Moment, steps_since}
 use Rattle.ig_meaning.specs.Call.{AllLook}
 use Rattle.ig_meaning.specs.Making.{Making, Unfinished, lists, reads}
 use Rattle.ig_rule.specs.Went.{Went, Acted, Idled, Listed}
@@ -19,9 +15,10 @@ use Rattle.ig_rule.specs.WentOn.{EachMoment, LooksOnly, went_then, went_nothing}
 use Rattle.ig_task.specs.Pipeline.{is_allowed}
 use Rattle.ig_task.specs.declared.pipeline.Pipeline.{Pipeline}
 use Rattle.ig_stage.specs.Errors.{make_error_of}
-use Rattle.ig_stage.specs.Looking.{AllListTruly, IsMakingOf, Looks}
+use Rattle.ig_stage.specs.Looking.{AllListTruly, AreNames, IsMakingOf, Looks, OthersLook}
 use Rattle.ig_stage.specs.declared.error.MakeError.{MakeError}
 use Rattle.ig_stage.specs.declared.error.MakeError.TheVariants.{Absent, BadRecord, TooManyStages, Missing, BadInfo, NoScale, DestNotEmpty, Taken, ShapeUnfit, TooManyTasks, TaskTooLarge, Failed, Memory}
+use Rattle.ig_stage.proofs.OthersLooks.{look_in_parts}
 
 -- a step that looks at a file, or lists a directory, is one that does
 pub reads_it : (path other : List ℕ) → other ≡ path → reads path (act.Read other) ≡ true
@@ -39,7 +36,7 @@ pub AllLook-append : (first then : List Moment) → AllLook first → AllLook th
 AllLook-append [] then a b = b
 AllLook-append (m ∷ first) then a b = (a.0, AllLook-append first then a.1 b)
 
-AllListTruly-append : (first then : List Moment) → AllListTruly first → AllListTruly then → AllListTruly (first ++ then)
+pub AllListTruly-append : (first then : List Moment) → AllListTruly first → AllListTruly then → AllListTruly (first ++ then)
 AllListTruly-append [] then a b = b
 AllListTruly-append (m ∷ first) then a b = (a.0, AllListTruly-append first then a.1 b)
 
@@ -49,7 +46,7 @@ module _ (allows : Bool → Files → Act → Type 0) where
   -- nothing was looked at
   pub looks_idly : {T : Type 0} (making : List Moment → Making) (next : T → List Moment → Making) (old new : Log) (result : Result T MakeError)
       → Went allows old new [] → IsMakingOf making next [] result → Looks allows making next old new result
-  looks_idly making next old new result went made = record { ms = []; went = went; quiet = tt; truly = λ reads. tt; made = made }
+  looks_idly making next old new result went made = record { ms = []; went = went; quiet = tt; truly = λ look. tt; made = made }
 
   pub looks_nowhere : {T : Type 0} (making : List Moment → Making) (next : T → List Moment → Making) (log : Log) (result : Result T MakeError)
       → IsMakingOf making next [] result → Looks allows making next log log result
@@ -62,36 +59,19 @@ module _ (allows : Bool → Files → Act → Type 0) where
     ms = record { files = replay (files_of old) t.others; act = act.Read path } ∷ [];
     went = t.went;
     quiet = (tt, tt);
-    truly = λ reads. (tt, tt);
+    truly = λ look. (tt, tt);
     made = subst (λ files. IsMakingOf {T = T} making next (record { files = files; act = act.Read path } ∷ []) result) t.files made;
   }
 
-  -- what stood at some moment of others who only read stands after them
-  stands_last : OthersOnlyRead allows → (dir name : List ℕ) (files : Files) (others : List Step) → ByOthers allows files others → StandsOnce files others dir name
-      → Stands (replay files others) dir name
-  stands_last reads dir name files [] by here = here
-  stands_last reads dir name files (step ∷ others) by (inl here) =
-      stands_last reads dir name (after files step.act) others by.2
-      (stands_once dir name (after files step.act) others (subst (λ now. Stands now dir name) (sym (after-quiet files step.act (reads files step.act by.1))) here))
-    where
-      stands_once : (dir name : List ℕ) (files : Files) (others : List Step) → Stands files dir name → StandsOnce files others dir name
-      stands_once dir name files [] here = here
-      stands_once dir name files (step ∷ others) here = inl here
-  stands_last reads dir name files (step ∷ others) by (inr later) = stands_last reads dir name (after files step.act) others by.2 later
-
   -- a directory was listed
   pub looks_listed : {T : Type 0} (making : List Moment → Making) (next : T → List Moment → Making) (old new : Log) (result : Result T MakeError) (dir : List ℕ) (given : List (List ℕ))
-      → Listed allows old new dir given → IsMakingOf making next (record { files = files_of new; act = act.List dir given } ∷ []) result → Looks allows making next old new result
-  looks_listed {T = T} making next old new result dir given t made = record {
+      → Listed allows old new dir given → (OthersLook (steps_since old new) → AreNames (files_of new) dir given)
+      → IsMakingOf making next (record { files = files_of new; act = act.List dir given } ∷ []) result → Looks allows making next old new result
+  looks_listed {T = T} making next old new result dir given t names made = record {
     ms = record { files = replay (files_of old) t.acted.others; act = act.List dir given } ∷ [];
     went = t.acted.went;
     quiet = (tt, tt);
-    truly = λ reads. (
-      λ k other below.
-          let name = slice_index_or given k other in
-          stands_last reads dir name (files_of old) t.acted.others t.acted.by (t.names.only name (All-contains_itself given k other below)),
-      tt,
-    );
+    truly = λ look. (subst (λ files. AreNames files dir given) t.acted.files (names look), tt);
     made = subst (λ files. IsMakingOf {T = T} making next (record { files = files; act = act.List dir given } ∷ []) result) t.acted.files made;
   }
 
@@ -120,7 +100,9 @@ module _ (allows : Bool → Files → Act → Type 0) where
     ms = a.ms ++ b.ms;
     went = went_then allows old mid new a.ms b.ms a.went b.went;
     quiet = AllLook-append a.ms b.ms a.quiet b.quiet;
-    truly = λ reads. AllListTruly-append a.ms b.ms (a.truly reads) (b.truly reads);
+    truly = λ look.
+        let parts = look_in_parts allows old mid new a.ms b.ms a.went b.went look in
+        AllListTruly-append a.ms b.ms (a.truly parts.0) (b.truly parts.1);
     made = made_then {U = U} making (next x) last a.ms b.ms result a.made b.made;
   }
 
@@ -162,9 +144,10 @@ module _ (allows : Bool → Files → Act → Type 0) where
 
   -- memory ran out once a directory was listed
   pub looks_listed_memory : {U : Type 0} (making : List Moment → Making) (last : U → List Moment → Making) (old new : Log) (dir : List ℕ) (given : List (List ℕ)) (e : MakeError) (result : Result U MakeError)
-      → result ≡ Err e → e ≡ Memory → Listed allows old new dir given → Looks allows making last old new result
-  looks_listed_memory {U = U} making last old new dir given e result is memory listed =
-      subst (λ (r : Result U MakeError). Looks allows making last old new r) (sym (is ∙ ap Err memory)) (looks_listed making last old new (Err Memory) dir given listed tt)
+      → result ≡ Err e → e ≡ Memory → Listed allows old new dir given → (OthersLook (steps_since old new) → AreNames (files_of new) dir given)
+      → Looks allows making last old new result
+  looks_listed_memory {U = U} making last old new dir given e result is memory listed names =
+      subst (λ (r : Result U MakeError). Looks allows making last old new r) (sym (is ∙ ap Err memory)) (looks_listed making last old new (Err Memory) dir given listed names tt)
 
   -- and once a file was looked at
   pub looks_read_memory : {U : Type 0} (making : List Moment → Making) (last : U → List Moment → Making) (old new : Log) (path : List ℕ) (e : MakeError) (result : Result U MakeError)

@@ -21,13 +21,14 @@ use Rattle.ig_task.specs.Facts.{stage_reader}
 use Rattle.ig_task.specs.Pipeline.{is_allowed}
 use Rattle.ig_task.specs.declared.pipeline.Pipeline.{Pipeline}
 use Rattle.ig_stage.specs.Errors.{ending_of_make, make_error_of}
-use Rattle.ig_stage.specs.Looking.{IsErrorOf, Looks}
-use Rattle.ig_stage.specs.Made.{AreMaking, EndsSo, LooksFirst, MakesBy}
+use Rattle.ig_stage.specs.Looking.{AllListTruly, IsErrorOf, Looks}
+use Rattle.ig_stage.specs.Made.{AreMaking, EndsSo, EndsTruly, LooksFirst, MakesBy, MakesTruly}
 use Rattle.ig_stage.specs.Open.{Does, DoesSome, maker_rule}
 use Rattle.ig_stage.specs.declared.enqueuing.Made.{Made}
 use Rattle.ig_stage.specs.declared.enqueuing.Made.TheVariants as made
 use Rattle.ig_stage.specs.declared.error.MakeError.{MakeError}
-use Rattle.ig_stage.proofs.Lookings.{AllLook-append, look_only}
+use Rattle.ig_stage.proofs.Lookings.{AllListTruly-append, AllLook-append, look_only}
+use Rattle.ig_stage.proofs.OthersLooks.{look_in_parts}
 
 -- own steps that only look
 pub quiet_first : (making : Making) (ms : List Moment) → AllLook ms → LooksFirst making ms
@@ -43,6 +44,23 @@ first_after Unfinished ms more quiet looks = AllLook-append ms more quiet looks
 first_after (Planned s after) ms more quiet looks = AllLook-append ms more quiet looks
 first_after (New n s after) ms more quiet looks = tt
 first_after (Continues n s after) ms more quiet looks = tt
+
+-- true listings, and then those of what went on
+ends_truly_after : (ending : Ending) (ms more : List Moment) → AllListTruly ms → EndsTruly ending more → EndsTruly ending (ms ++ more)
+ends_truly_after (Refuses r) ms more truly then = AllListTruly-append ms more truly then
+ends_truly_after StoreFailed ms more truly then = tt
+ends_truly_after NoMemory ms more truly then = tt
+ends_truly_after Finished ms more truly then = tt
+
+truly_after : (result : Result Made MakeError) (ms more : List Moment) → AllListTruly ms → MakesTruly result more → MakesTruly result (ms ++ more)
+truly_after (Ok m) ms more truly then = tt
+truly_after (Err e) ms more truly then = ends_truly_after (ending_of_make e) ms more truly then
+
+ends_truly : (ending : Ending) (ms : List Moment) → AllListTruly ms → EndsTruly ending ms
+ends_truly (Refuses r) ms truly = truly
+ends_truly StoreFailed ms truly = tt
+ends_truly NoMemory ms truly = tt
+ends_truly Finished ms truly = tt
 
 module _ (allows : Bool → Files → Act → Type 0) (q : List ℕ) where
   -- ---- looks first
@@ -64,6 +82,9 @@ module _ (allows : Bool → Files → Act → Type 0) (q : List ℕ) where
     went = went_then allows old mid new a.ms b.ms a.went b.went;
     are = subst (λ (m : Making). AreMaking q result m (a.ms ++ b.ms)) (sym (a.made b.ms)) (are_after result (next x b.ms) a.ms b.ms a.quiet b.are);
     looks = subst (λ (m : Making). LooksFirst m (a.ms ++ b.ms)) (sym (a.made b.ms)) (first_after (next x b.ms) a.ms b.ms a.quiet b.looks);
+    truly = λ look.
+        let parts = look_in_parts allows old mid new a.ms b.ms a.went b.went look in
+        truly_after result a.ms b.ms (a.truly parts.0) (b.truly parts.1);
   }
 
   -- a look failed
@@ -77,7 +98,13 @@ module _ (allows : Bool → Files → Act → Type 0) (q : List ℕ) where
       → result ≡ Err e → Looks allows making next old new (Err e) → MakesBy allows q making old new result
   looks_fail making next old new e result is a =
       subst (λ (r : Result Made MakeError). MakesBy allows q making old new r) (sym is)
-      (record { ms = a.ms; went = a.went; are = error_ends making a.ms (ending_of_make e) a.quiet a.made; looks = quiet_first (making a.ms) a.ms a.quiet })
+      (record {
+        ms = a.ms;
+        went = a.went;
+        are = error_ends making a.ms (ending_of_make e) a.quiet a.made;
+        looks = quiet_first (making a.ms) a.ms a.quiet;
+        truly = λ look. ends_truly (ending_of_make e) a.ms (a.truly look);
+      })
 
   -- ---- then puts
 
@@ -86,16 +113,20 @@ module _ (allows : Bool → Files → Act → Type 0) (q : List ℕ) where
   put_ends store.Failed making ms none = none
   put_ends store.Memory making ms none = tt
 
+  put_truly : (e : StoreError) (ms : List Moment) → EndsTruly (ending_of_make (make_error_of e)) ms
+  put_truly store.Failed ms = tt
+  put_truly store.Memory ms = tt
+
   pub puts_fail : (making : List Moment → Making) (old new : Log) (e : StoreError) (made : MakeError) (result : Result Made MakeError) → result ≡ Err made → made ≡ make_error_of e
       → ((ms : List Moment) → fault_of_making (making ms) ≡ None) → ((ms : List Moment) → LooksFirst (making ms) ms) → DoesSome allows old new → MakesBy allows q making old new result
   puts_fail making old new e made result is same none first d =
       subst (λ (r : Result Made MakeError). MakesBy allows q making old new r) (sym (is ∙ ap Err same))
-      (record { ms = d.ms; went = d.went; are = put_ends e (making d.ms) d.ms (none d.ms); looks = first d.ms })
+      (record { ms = d.ms; went = d.went; are = put_ends e (making d.ms) d.ms (none d.ms); looks = first d.ms; truly = λ look. put_truly e d.ms })
 
   -- a new stage was made
   pub new_made : (old new : Log) (n tasks : ℕ) (s : Stage) → tasks ≡ task_count s → Does allows old new (map put_of (new_files q n s))
       → MakesBy allows q (New n s) old new (Ok (made.New n s.kind tasks))
-  new_made old new n tasks s count d = record { ms = d.ms; went = d.went; are = (d.are, ap (λ k. Some (made.New n s.kind k)) (sym count)); looks = tt }
+  new_made old new n tasks s count d = record { ms = d.ms; went = d.went; are = (d.are, ap (λ k. Some (made.New n s.kind k)) (sym count)); looks = tt; truly = λ look. tt }
 
   -- the last stage was made to its end
   pub last_made : (making : List Moment → Making) (old new : Log) (n tasks : ℕ) (s : Stage) → ((ms : List Moment) → making ms ≡ Continues n s ms) → tasks ≡ task_count s
@@ -107,6 +138,7 @@ module _ (allows : Bool → Files → Act → Type 0) (q : List ℕ) where
         subst (λ (m : Making). AreMaking q (Ok (made.Continued n s.kind tasks)) m d.1.ms) (sym (is d.1.ms))
         (subst (IsContinuation q n s) (sym d.1.are) d.2, ap (λ k. Some (made.Continued n s.kind k)) (sym count));
     looks = subst (λ (m : Making). LooksFirst m d.1.ms) (sym (is d.1.ms)) tt;
+    truly = λ look. tt;
   }
 
 -- ---- while a maker looks its log stays legal

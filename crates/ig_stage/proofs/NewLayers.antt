@@ -7,7 +7,7 @@ use Rattle.ig_defs.specs.declared.step.Act.TheVariants as act
 use Rattle.ig_defs.specs.declared.error.StoreError.{StoreError}
 use Rattle.ig_defs.specs.Files.{Files, file_at}
 use Rattle.ig_defs.specs.Log.{Log, files_of}
-use Rattle.ig_defs.specs.Own.{Moment}
+use Rattle.ig_defs.specs.Own.{Moment, steps_since}
 use Rattle.ig_meaning.specs.Ending.{Ending, Finished, Refuses, StoreFailed, NoMemory}
 use Rattle.ig_meaning.specs.Making.{Making, Refused, making_of_dirs, making_of_fit, making_of_found, making_of_info, making_of_names, reads, where_it_looks}
 use Rattle.ig_meaning.specs.Refusal as refusal
@@ -16,7 +16,7 @@ use Rattle.ig_record.specs.declared.stage.InfoFile.{InfoFile}
 use Rattle.ig_record.specs.declared.stage.Stage.{Stage}
 use Rattle.ig_rule.specs.Went.{Acted, Idled, Listed}
 use Rattle.ig_stage.specs.Errors.{ending_of_make, make_error_of}
-use Rattle.ig_stage.specs.Looking.{IsErrorOf, Looks}
+use Rattle.ig_stage.specs.Looking.{AreNames, IsErrorOf, Looks, OthersLook}
 use Rattle.ig_stage.specs.Making.{IsJudged, JudgesFit}
 use Rattle.ig_stage.specs.declared.error.MakeError.{MakeError}
 use Rattle.ig_stage.specs.declared.error.MakeError.TheVariants.{DestNotEmpty}
@@ -98,19 +98,20 @@ module _ (allows : Bool → Files → Act → Type 0) (earlier : List Stage) (pl
 
   -- ---- a directory
   module _ (old new : Log) (s : Stage) (dest : Place) (rest : List Place) where
-    pub dir_empty : (given : List (List ℕ)) → given ≡ [] → Listed allows old new dest.dir given
+    pub dir_empty : (given : List (List ℕ)) → given ≡ [] → Listed allows old new dest.dir given → (OthersLook (steps_since old new) → AreNames (files_of new) dest.dir given)
         → Looks allows (making_of_dirs earlier planned_as s (dest ∷ rest)) (dirs_left s rest) old new done
-    dir_empty given empty listed =
-        looks_listed allows (making_of_dirs earlier planned_as s (dest ∷ rest)) (dirs_left s rest) old new done dest.dir given listed
+    dir_empty given empty listed shows =
+        looks_listed allows (making_of_dirs earlier planned_as s (dest ∷ rest)) (dirs_left s rest) old new done dest.dir given listed shows
         (λ ms. ap (λ b. where_it_looks b (making_of_names dest.dir given (making_of_dirs earlier planned_as s rest ms))) (lists_it dest.dir dest.dir given refl)
         ∙ ap (λ names. making_of_names dest.dir names (making_of_dirs earlier planned_as s rest ms)) empty)
 
     pub dir_listed : (given : List (List ℕ)) (name path : List ℕ) → slice_get given 0 ≡ Some name → path ≡ joined dest.dir name → Listed allows old new dest.dir given
+        → (OthersLook (steps_since old new) → AreNames (files_of new) dest.dir given)
         → Looks allows (making_of_dirs earlier planned_as s (dest ∷ rest)) (dirs_left s rest) old new (Err (DestNotEmpty path))
-    dir_listed [] name path first is listed = let no_name : ⊥ = cc in absurd no_name
-    dir_listed (n ∷ names) name path first is listed =
+    dir_listed [] name path first is listed shows = let no_name : ⊥ = cc in absurd no_name
+    dir_listed (n ∷ names) name path first is listed shows =
         let same : n ≡ name = cc in
-        looks_listed allows (making_of_dirs earlier planned_as s (dest ∷ rest)) (dirs_left s rest) old new (Err (DestNotEmpty path)) dest.dir (n ∷ names) listed
+        looks_listed allows (making_of_dirs earlier planned_as s (dest ∷ rest)) (dirs_left s rest) old new (Err (DestNotEmpty path)) dest.dir (n ∷ names) listed shows
         (λ ms. ap (λ b. where_it_looks b (making_of_names dest.dir (n ∷ names) (making_of_dirs earlier planned_as s rest ms))) (lists_it dest.dir dest.dir (n ∷ names) refl)
         ∙ ap (λ p. Refused (refusal.NotEmpty p)) (ap (joined dest.dir) same ∙ sym is))
 

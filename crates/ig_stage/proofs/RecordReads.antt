@@ -4,7 +4,7 @@ use Rattle.ig_defs.specs.declared.step.Act.{Act}
 use Rattle.ig_defs.specs.declared.step.Act.TheVariants as act
 use Rattle.ig_defs.specs.Files.{Files, file_at}
 use Rattle.ig_defs.specs.Log.{Log, files_of}
-use Rattle.ig_defs.specs.Own.{Moment}
+use Rattle.ig_defs.specs.Own.{Moment, steps_since}
 use Rattle.ig_meaning.specs.Ending.{Ending, Finished, Refuses, StoreFailed, NoMemory}
 use Rattle.ig_meaning.specs.Making.{Making, Refused, where_it_looks}
 use Rattle.ig_meaning.specs.QueueMaking.{if_found, making_of_queue, making_of_records, making_of_texts, record_count, record_path, stages_dir, stages_of}
@@ -14,7 +14,7 @@ use Rattle.ig_rule.specs.Went.{Acted, Listed}
 use Rattle.ig_task.specs.Pipeline.{is_allowed}
 use Rattle.ig_task.specs.declared.pipeline.Pipeline.{Pipeline}
 use Rattle.ig_stage.specs.Errors.{ending_of_make}
-use Rattle.ig_stage.specs.Looking.{IsErrorOf, IsMakingOf, Looks}
+use Rattle.ig_stage.specs.Looking.{AreNames, IsErrorOf, IsMakingOf, Looks, OthersLook}
 use Rattle.ig_stage.specs.Recorded.{AreNoRecords, GivesStages, LooksAtRecord, LooksAtRecords, ReadsOn}
 use Rattle.ig_stage.specs.declared.error.MakeError.{MakeError}
 use Rattle.ig_stage.specs.declared.error.MakeError.TheVariants.{Absent, Memory}
@@ -106,9 +106,10 @@ module _ (allows : Bool → Files → Act → Type 0) (q : List ℕ) where
 
   module _ (next : List Stage → List Moment → Making) where
     pub looks_queue : (old mid : Log) (dir : List ℕ) (given : List (List ℕ)) (count : ℕ) → dir ≡ stages_dir q → count ≡ record_count given → Listed allows old mid dir given
+        → (OthersLook (steps_since old mid) → AreNames (files_of mid) dir given)
         → Looks {T = Unit {0}} allows (making_of_queue q next) (λ u. making_of_records q next count []) old mid (Ok tt)
-    looks_queue old mid dir given count is counts listed =
-        looks_listed allows (making_of_queue q next) (λ (u : Unit {0}). making_of_records q next count []) old mid (Ok tt) dir given listed
+    looks_queue old mid dir given count is counts listed names =
+        looks_listed allows (making_of_queue q next) (λ (u : Unit {0}). making_of_records q next count []) old mid (Ok tt) dir given listed names
         (λ rest. ap (λ b. where_it_looks b (making_of_records q next (record_count given) [] rest)) (lists_it (stages_dir q) dir given is)
         ∙ ap (λ n. making_of_records q next n [] rest) (sym counts))
 

@@ -1,5 +1,5 @@
 -- The names of records, and how many stages they tell.
-use Rattle.std.proofs.Common.{arith, inl, inr, ◌⊎◌, ◌≡◌, ◌<◌, ◌+◌, ◌^◌, ◌∙◌, ℕ, zero, suc, max, true, false, if◌then◌else◌, List, ◌∷◌, Option, None, Some, IfSome, IsNone, length, drop, get_or, codes, refl, ap, sym, append_assoc}
+use Rattle.std.proofs.Common.{arith, inl, inr, ◌⊎◌, ◌≡◌, ◌<◌, ◌+◌, ◌^◌, ◌∙◌, ℕ, zero, suc, max, Bool, true, false, if◌then◌else◌, List, ◌∷◌, Option, None, Some, IfSome, IsNone, length, drop, get_or, codes, refl, ap, sym, append_assoc}
 use Rattle.std.proofs.Math.Seq.{drop-cons, drop-length}
 use Rattle.std.proofs.lemmas.Bool.{cases_Bool, lt-ltb, ltb-true}
 use Rattle.std.proofs.lemmas.Bool.Decides.{nat_tests}
@@ -11,6 +11,7 @@ use Rattle.ig_layer.specs.Faults.{first_of, or_else}
 use Rattle.ig_meaning.specs.QueueMaking.{beyond, record_count, record_path, seal_path, stage_named, stages_dir}
 use Rattle.ig_rule.specs.QueueFiles.{folder, file_name}
 use Rattle.ig_space.specs.Path.{joined}
+use Rattle.ig_task.specs.Lists.{first_of-from}
 
 -- the path of a record
 pub record_path_is : (q name : List ℕ) (n : ℕ) → name ≡ stage_file n → joined (stages_dir q) name ≡ record_path q n
@@ -69,6 +70,19 @@ named_is name n fits is = first_named name (10 ^ 4) n (ltb-true n (10 ^ 4) fits)
 pub named_none : (name : List ℕ) → ((n : ℕ) → stage_fits n ≡ true → name ≡ stage_file n → ⊥) → stage_named name ≡ None
 unfolding stage_named
 named_none name none = none_named name (10 ^ 4) (λ k below is. none k (lt-ltb k (10 ^ 4) below) (sym is))
+
+named_by : (name : List ℕ) (k n : ℕ) (b : Bool) → bytes_eq (stage_file k) name ≡ b → k < 10 ^ 4 → (if b then Some k else None) ≡ Some n → (stage_fits n ≡ true) × (stage_file n ≡ name)
+named_by name k n true same few is =
+    let number : k ≡ n = cc in
+    (lt-ltb n (10 ^ 4) (omega (arith, number, few)), ap stage_file (sym number) ∙ (bytes_eq-Decides (stage_file k) name).0 same)
+named_by name k n false same few is = let no_way : ⊥ = cc in absurd no_way
+
+-- the name is that of the record of the stage which it has
+pub named_back : (name : List ℕ) (n : ℕ) → stage_named name ≡ Some n → (stage_fits n ≡ true) × (stage_file n ≡ name)
+unfolding stage_named
+named_back name n is =
+    let v = first_of-from (named_if name) (10 ^ 4) n is in
+    named_by name v.number n (bytes_eq (stage_file v.number) name) refl v.below v.is
 
 pub named_found : (name : List ℕ) (result : Option ℕ) → IfSome result (λ n. (stage_fits n ≡ true) × (name ≡ stage_file n))
     → (IsNone result → (n : ℕ) → stage_fits n ≡ true → name ≡ stage_file n → ⊥) → result ≡ stage_named name

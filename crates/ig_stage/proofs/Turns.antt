@@ -60,7 +60,7 @@ stands_first dir name files (step ∷ others) by (inl here) = here
 stands_first dir name files (step ∷ others) by (inr later) =
     subst (λ now. Stands now dir name) (after-quiet files step.act (others_only_read files step.act by.1)) (stands_first dir name (after files step.act) others by.2 later)
 
-stand_now : (old new : Log) (P : Files → List Step → List Act → Type 0) (t : Turn (is_allowed local_rule) old new P) (dir : List ℕ) (given : List (List ℕ))
+pub stand_now : (old new : Log) (P : Files → List Step → List Act → Type 0) (t : Turn (is_allowed local_rule) old new P) (dir : List ℕ) (given : List (List ℕ))
     → ((name : List ℕ) → Contains given name → StandsOnce (files_of old) t.others dir name) → All (Stands (files_of old) dir) given
 stand_now old new P t dir given only = λ k other below.
     let name = slice_index_or given k other in

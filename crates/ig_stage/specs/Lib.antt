@@ -14,3 +14,4 @@ pub mod Free
 pub mod Listings
 pub mod Shown
 pub mod Made
+pub mod CanMake

@@ -4,7 +4,7 @@ use Rattle.std.specs.List.{All}
 use Rattle.ig_defs.specs.declared.step.Act.{Act}
 use Rattle.ig_defs.specs.Files.{Files}
 use Rattle.ig_defs.specs.Log.{Log, files_of}
-use Rattle.ig_defs.specs.Own.{Moment}
+use Rattle.ig_defs.specs.Own.{Moment, steps_since}
 use Rattle.ig_meaning.specs.Call.{AllLook}
 use Rattle.ig_meaning.specs.Ending.{Ending, Finished, Refuses, StoreFailed, NoMemory}
 use Rattle.ig_meaning.specs.Fault.{fault_of_making}
@@ -25,6 +25,7 @@ use Rattle.ig_rule.specs.Stages.{Sealed}
 use Rattle.ig_rule.specs.Went.{Went}
 use Rattle.ig_stage.specs.Errors.{ending_of_make}
 use Rattle.ig_stage.specs.Free.{IsFree}
+use Rattle.ig_stage.specs.Looking.{AllListTruly, OthersLook}
 use Rattle.ig_stage.specs.Open.{maker_rule}
 use Rattle.ig_stage.specs.declared.enqueuing.Made.{Made}
 use Rattle.ig_stage.specs.declared.enqueuing.Made.TheVariants as made
@@ -64,6 +65,17 @@ abbrev pub AreMaking : List ℕ → Result Made MakeError → Making → List Mo
 AreMaking q (Ok m) making ms = HasMade q making × (made_of making ≡ Some m)
 AreMaking q (Err e) making ms = EndsSo (ending_of_make e) making ms
 
+-- the listings of a making that was refused are true
+abbrev pub EndsTruly : Ending → List Moment → Type 0
+EndsTruly (Refuses r) ms = AllListTruly ms
+EndsTruly StoreFailed ms = Unit {0}
+EndsTruly NoMemory ms = Unit {0}
+EndsTruly Finished ms = Unit {0}
+
+abbrev pub MakesTruly : Result Made MakeError → List Moment → Type 0
+MakesTruly (Ok m) ms = Unit {0}
+MakesTruly (Err e) ms = EndsTruly (ending_of_make e) ms
+
 -- As long as no stage is known, the own steps only look.
 abbrev pub LooksFirst : Making → List Moment → Type 0
 LooksFirst (Refused refusal) ms = AllLook ms
@@ -72,12 +84,13 @@ LooksFirst (Planned s after) ms = AllLook ms
 LooksFirst (New n s after) ms = Unit {0}
 LooksFirst (Continues n s after) ms = Unit {0}
 
--- The log grew by a making in this queue.
+-- The log grew by a making in this queue. Where others only looked, its listings are true, if it was refused.
 pub record MakesBy (allows : Bool → Files → Act → Type 0) (q : List ℕ) (making : List Moment → Making) (old new : Log) (result : Result Made MakeError) : Type 0 where
   pub ms : List Moment
   pub went : Went allows old new ms
   pub are : AreMaking q result (making ms) ms
   pub looks : LooksFirst (making ms) ms
+  pub truly : OthersLook (steps_since old new) → MakesTruly result ms
 
 -- The making of a copy in a queue.
 abbrev pub MakesIn : List ℕ → meaning.Request → Log → Log → Result Made MakeError → Type 0

@@ -1,10 +1,13 @@
 //! The calls on a store, whatever others do beside it; and what they come to where others only look.
 ghost use Rattle.std.specs.Prelude.{◌≡◌, All, IfOk};
 ghost use Rattle.ig_defs.specs.Calls.{HasCause};
+ghost use Rattle.ig_defs.specs.Log.{files_of};
 ghost use Rattle.ig_defs.specs.Names.{IsNameIn};
+ghost use Rattle.ig_defs.specs.Own.{steps_since};
 ghost use Rattle.ig_rule.specs.Went.{WentRead, WentHas, WentList, WentPut};
 ghost use Rattle.ig_task.specs.Pipeline.{is_allowed};
 ghost use Rattle.ig_stage.specs.Did.{DidRead, DidHas, DidList, DidPut};
+ghost use Rattle.ig_stage.specs.Looking.{AreNames, OthersLook};
 ghost use Rattle.ig_stage.specs.Pipeline.{local_rule};
 
 use ig_space::{Bytes, Names, Path};
@@ -34,6 +37,7 @@ pub fn names<S: Store<Pipeline>>(store: &mut S, dir: &Path) -> Result<Names, Sto
     ensures cause { HasCause (S.faults store.old) (S.faults store.new) result }
     ensures named { IfOk result (All (IsNameIn dir.now)) }
     ensures went { S.tells → WentList (is_allowed (S.rule store.old)) (S.log store.old) (S.log store.new) dir.now result }
+    ensures lists { S.tells → OthersLook (steps_since (S.log store.old) (S.log store.new)) → IfOk result (AreNames (files_of (S.log store.new)) dir.now) }
     ensures did { S.tells → S.rule store.old ≡ local_rule → DidList (S.log store.old) (S.log store.new) dir.now result }
 {
     store.names(dir)

@@ -1,7 +1,8 @@
 //! Makes a stage in a queue: a new one after those that are recorded, or the rest of the last one.
-ghost use Rattle.std.specs.Prelude.{◌≡◌, ◌≤◌, ◌<◌, ◌^◌, ◌-◌, List as list, [], ◌∷◌, length, slice_get, Some, true, false, All, IfOk, IfSome};
+ghost use Rattle.std.specs.Prelude.{◌≡◌, ◌≤◌, ◌<◌, ◌^◌, ◌-◌, List as list, [], ◌∷◌, length, slice_get, Some, true, false, All, IfErr, IfOk, IfSome};
 ghost use Rattle.ig_defs.specs.Calls.{HasCause};
 ghost use Rattle.ig_defs.specs.Log.{files_of};
+ghost use Rattle.ig_defs.specs.Own.{steps_since};
 ghost use Rattle.ig_meaning.specs.Making.{New};
 ghost use Rattle.ig_meaning.specs.QueueActs.{put_of, record_file};
 ghost use Rattle.ig_meaning.specs.QueueMaking.{making_of_new};
@@ -9,9 +10,11 @@ ghost use Rattle.ig_meaning.specs.QueueWords.{is_apart};
 ghost use Rattle.ig_record.specs.Sound.{is_sound};
 ghost use Rattle.ig_record.specs.declared.stage.Stage.{Stage as Recorded};
 ghost use Rattle.ig_rule.specs.Sound.{Legal};
+ghost use Rattle.ig_space.specs.Path.{is_path};
 ghost use Rattle.ig_task.specs.Facts.{stage_reader};
 ghost use Rattle.ig_task.specs.Pipeline.{is_allowed};
-ghost use Rattle.ig_stage.specs.Errors.{ending_of, HasCauseFor};
+ghost use Rattle.ig_stage.specs.CanMake.{AllOwn, CanMake, IsNoRefusal};
+ghost use Rattle.ig_stage.specs.Errors.{ending_of, ending_of_make, HasCauseFor};
 ghost use Rattle.ig_stage.specs.Made.{AreLayersApart, IsSealed, MakesBy, MakesIn, MayRecord};
 ghost use Rattle.ig_stage.specs.Open.{maker_rule, Does, DoesSome, IsOpen};
 ghost use Rattle.ig_stage.specs.Recorded.{continues, FindsSeal};
@@ -166,6 +169,7 @@ pub fn make<S: Store<Pipeline>>(
     ensures made { S.tells → MakesIn queue.now (shown_request want.now) (S.log store.old) (S.log store.new) result }
     ensures legal { S.tells → Legal stage_reader queue.now (S.log store.old) → Legal stage_reader queue.now (S.log store.new) }
     ensures sealed { S.tells → Legal stage_reader queue.now (S.log store.old) → IfOk result (IsSealed queue.now (files_of (S.log store.new))) }
+    ensures complete { S.tells → is_path queue.now ≡ true → CanMake queue.now (shown_request want.now) (files_of (S.log store.old)) → AllOwn (steps_since (S.log store.old) (S.log store.new)) → IfErr result (λ e. IsNoRefusal (ending_of_make e)) }
 {
     let stages = read_records(alloc, store, queue)?;
     if last_is_sealed(alloc, store, queue, &stages)? {

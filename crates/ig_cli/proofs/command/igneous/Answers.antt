@@ -1,4 +1,4 @@
-use Rattle.ig_cli.proofs.Completes.{complete}
+use Rattle.ig_cli.proofs.Completes.{complete, complete_made}
 use Rattle.ig_cli.proofs.Performs.{fault_at, outcome}
 use Rattle.ig_cli.proofs.Promises.{copied, in_order, in_sequence, is_a_status, only_puts, printed, printed_part, refused_judged, to_the_refusal, told_refusal}
 use Rattle.ig_cli.proofs.Drains.{holds_exactly}
@@ -14,6 +14,11 @@ returns-clause-refused g c = λ tells. refused_judged _ _ _ c.report.ensures.sta
 pub returns-clause-complete : goal.returns-clause-complete
 returns-clause-complete g c = λ tells.
     complete _ _ _ _ _ _ _ _ _ c.report.ensures.status c.perform-outcome.ensures.words (c.perform-outcome.ensures.performed tells) c.perform-outcome.ensures.cause c.report.ensures.nine
+
+pub returns-clause-complete_made : goal.returns-clause-complete_made
+returns-clause-complete_made g c = λ tells q request asked legal can own.
+    complete_made _ _ _ _ _ _ _ q request c.report.ensures.status c.perform-outcome.ensures.words c.perform-outcome.ensures.cause c.report.ensures.nine asked
+    (c.perform-outcome.ensures.complete tells q request asked can own)
 
 pub returns-clause-copied : goal.returns-clause-copied
 returns-clause-copied g c = λ tells. copied _ _ _ _ _ c.report.ensures.status (outcome _ _ _ _ (c.perform-outcome.ensures.performed tells))

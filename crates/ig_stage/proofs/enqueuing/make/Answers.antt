@@ -6,6 +6,7 @@ use Rattle.ig_task.specs.Facts.{stage_reader}
 use Rattle.ig_task.specs.Kinds.{kinds}
 use Rattle.ig_stage.specs.Open.{maker_rule}
 use Rattle.ig_stage.specs.Requests.{shown_request}
+use Rattle.ig_stage.proofs.CanMakes.{can_make}
 use Rattle.ig_stage.proofs.Enqueues.{finds_as, layers_apart, makes_under, sealed_goes_on, unsealed_continues}
 use Rattle.ig_stage.proofs.Lookings.{under_rule}
 use Rattle.ig_stage.proofs.Makers.{looks_fail, looks_legal, looks_then_makes}
@@ -105,3 +106,15 @@ returns-clause-sealed g c = λ tells legal.
     c.continue_last.ensures.sealed tells (c.last_is_sealed.ensures.rule ∙ first) finds
     (looks_legal _ q _ _ _ _ _ first (c.in_ok-last_is_sealed.ensures.looks tells new)
     (looks_legal _ q _ _ _ _ _ c.requires.rule (c.in_ok-stages.ensures.looks tells (making_of_last q new)) legal))
+
+pub returns-in_err-stages-clause-complete : goal.returns-in_err-stages-clause-complete
+returns-in_err-stages-clause-complete g c = λ tells path can own. can_make c.args.queue.now (shown_request c.args.want.now) _ _ path c.requires.short can own _ (returns-in_err-stages-clause-made g c tells)
+
+pub returns-in_err-last_is_sealed-clause-complete : goal.returns-in_err-last_is_sealed-clause-complete
+returns-in_err-last_is_sealed-clause-complete g c = λ tells path can own. can_make c.args.queue.now (shown_request c.args.want.now) _ _ path c.requires.short can own _ (returns-in_err-last_is_sealed-clause-made g c tells)
+
+pub returns-then-branch-clause-complete : goal.returns-then-branch-clause-complete
+returns-then-branch-clause-complete g c = λ tells path can own. can_make c.args.queue.now (shown_request c.args.want.now) _ _ path c.requires.short can own _ (returns-then-branch-clause-made g c tells)
+
+pub returns-clause-complete : goal.returns-clause-complete
+returns-clause-complete g c = λ tells path can own. can_make c.args.queue.now (shown_request c.args.want.now) _ _ path c.requires.short can own _ (returns-clause-made g c tells)

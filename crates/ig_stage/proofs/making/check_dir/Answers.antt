@@ -13,15 +13,16 @@ returns-in_err-given-clause-looks g c = λ tells earlier planned_as s rest.
 pub returns-in_err-name_in-in-Some-clause-looks : goal.returns-in_err-name_in-in-Some-clause-looks
 returns-in_err-name_in-in-Some-clause-looks g c = λ tells earlier planned_as s rest.
     let p = err_from_is_err_and c.from_residual-in_err-name_in-in-Some.result c.from_residual-in_err-name_in-in-Some.ensures.1 in
-    looks_listed_memory _ _ _ _ _ _ _ _ _ p.1 p.2 (c.in_ok-given.ensures.went tells)
+    looks_listed_memory _ _ _ _ _ _ _ _ _ p.1 p.2 (c.in_ok-given.ensures.went tells) (c.in_ok-given.ensures.lists tells)
 
 pub returns-in-Some-clause-looks : goal.returns-in-Some-clause-looks
 returns-in-Some-clause-looks g c = λ tells earlier planned_as s rest.
     dir_listed _ earlier planned_as _ _ s c.args.dest.now rest c.in_ok-given.given c.in-Some.name.now _ (sym c.in-Some.ensures) c.in_ok-name_in-in-Some.ensures (c.in_ok-given.ensures.went tells)
+    (c.in_ok-given.ensures.lists tells)
 
 pub returns-clause-looks : goal.returns-clause-looks
 returns-clause-looks g c = λ tells earlier planned_as s rest.
-    dir_empty _ earlier planned_as _ _ s c.args.dest.now rest c.in_ok-given.given (empty_from_none _ c.in-None.ensures) (c.in_ok-given.ensures.went tells)
+    dir_empty _ earlier planned_as _ _ s c.args.dest.now rest c.in_ok-given.given (empty_from_none _ c.in-None.ensures) (c.in_ok-given.ensures.went tells) (c.in_ok-given.ensures.lists tells)
 
 pub returns-clause-empty : goal.returns-clause-empty
 returns-clause-empty g c = λ tells q stages knows.

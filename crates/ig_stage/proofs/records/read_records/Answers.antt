@@ -20,13 +20,13 @@ pub returns-in_err-texts-clause-looks : goal.returns-in_err-texts-clause-looks
 returns-in_err-texts-clause-looks g c = λ tells next.
     let p = err_from_is_err_and c.from_residual-in_err-texts.result c.from_residual-in_err-texts.ensures.1 in
     records_fail _ _ next _ _ _ c.record_count.result c.in_err-texts.field-0.0 _ (p.1 ∙ ap Err p.2)
-    (looks_queue _ _ next _ _ _ c.in_ok-listed.listed c.record_count.result c.in_ok-dir.ensures.dir c.record_count.ensures.count (c.in_ok-listed.ensures.went tells))
+    (looks_queue _ _ next _ _ _ c.in_ok-listed.listed c.record_count.result c.in_ok-dir.ensures.dir c.record_count.ensures.count (c.in_ok-listed.ensures.went tells) (c.in_ok-listed.ensures.lists tells))
     (all_under_rule _ _ _ c.record_count.result _ _ (Err c.in_err-texts.field-0.0) c.names.ensures.rule (c.in_err-texts.ensures.looks tells))
 
 pub returns-clause-looks : goal.returns-clause-looks
 returns-clause-looks g c = λ tells next.
     records_parsed _ _ next _ _ _ c.record_count.result c.in_ok-texts.texts _
-    (looks_queue _ _ next _ _ _ c.in_ok-listed.listed c.record_count.result c.in_ok-dir.ensures.dir c.record_count.ensures.count (c.in_ok-listed.ensures.went tells))
+    (looks_queue _ _ next _ _ _ c.in_ok-listed.listed c.record_count.result c.in_ok-dir.ensures.dir c.record_count.ensures.count (c.in_ok-listed.ensures.went tells) (c.in_ok-listed.ensures.lists tells))
     (all_under_rule _ _ _ c.record_count.result _ _ (Ok c.in_ok-texts.texts) c.names.ensures.rule (c.in_ok-texts.ensures.looks tells)) c.parse_texts.ensures.given
 
 pub returns-clause-known : goal.returns-clause-known
