@@ -1,5 +1,8 @@
+pub mod DueNames
 pub mod Marks
+pub mod Moving
 pub mod Numbers
 pub mod Parsed
+pub mod Ranks
 pub mod Segments
 pub mod Written

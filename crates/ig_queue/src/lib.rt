@@ -1,16 +1,28 @@
-//! A queue of tasks as files of a store: the names that its files have, and what its calls answer. The definitions of the
-//! names stand in `ig_defs`; the queue's own calls build on stores (`ig_store`).
+//! A queue of tasks as files of a store: the names and paths of its files, which tasks may be leased, and the moves by which
+//! a task is leased, done or a dead letter. The definitions of the names stand in `ig_defs`, what moves are allowed in
+//! `ig_rule`.
 #![tactic(auto)]
 
 mod digits;
+mod due;
+mod moves;
+#[cfg(test)]
+mod moves_tests;
 mod naming;
+mod paths;
 #[cfg(test)]
 mod tests;
 mod types;
 
+pub use due::candidates;
 pub use ig_defs::QueueName;
 pub use ig_space::{Path, TaskId};
+pub use moves::{bury, complete, lease};
 pub use naming::{
     parse_queue_name, parse_stage_name, parse_task_name, queue_name, stage_name, task_name,
 };
-pub use types::{Closed, Lease, Progress};
+pub use paths::{
+    dead_dir, dead_path, done_dir, done_path, queue_dir, queued_path, record_path, seal_path,
+    stages_dir,
+};
+pub use types::{Candidates, Closed, Lease, Progress};

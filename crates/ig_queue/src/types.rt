@@ -1,4 +1,8 @@
 use ig_defs::QueueName;
+use ig_space::List;
+
+/// Names of tasks in a queue that may be leased.
+pub type Candidates = List<QueueName>;
 
 /// What came of asking for a lease.
 #[derive(Clone, Copy, Debug, PartialEq, Eq)]

@@ -20,7 +20,8 @@ use Rattle.ig_stage.specs.Looking.{AreNames}
 use Rattle.ig_stage.proofs.KnownRecords.{in_queue}
 use Rattle.ig_stage.proofs.KnownStages.{counted, held, is_name, stands}
 use Rattle.ig_stage.proofs.SameStages.{AreRead}
-use Rattle.ig_stage.proofs.StageNames.{named_back, record_path_is}
+use Rattle.ig_queue.specs.FilesAt.{record_path_is}
+use Rattle.ig_stage.proofs.StageNames.{named_back}
 
 -- ---- where they stand
 

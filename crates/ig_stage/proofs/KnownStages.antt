@@ -31,7 +31,8 @@ use Rattle.ig_stage.specs.Recorded.{FindsRecords, GivesStages, IsMaking}
 use Rattle.ig_stage.specs.declared.error.MakeError.{MakeError}
 use Rattle.ig_stage.proofs.KnownRecords.{keeps_then, making_keeps, still_making}
 use Rattle.ig_stage.proofs.RecordTexts.{split, stages_of-length}
-use Rattle.ig_stage.proofs.StageNames.{named_is, record_path_is}
+use Rattle.ig_queue.specs.FilesAt.{record_path_is}
+use Rattle.ig_stage.proofs.StageNames.{named_is}
 
 -- ---- a recorded stage is listed
 

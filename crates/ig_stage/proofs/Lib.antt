@@ -26,7 +26,6 @@ pub mod StageNames
 pub mod LocalLooks
 pub mod FreeLayers
 pub mod InfoPaths
-pub mod FilesAt
 pub mod OpenKept
 pub mod OpenLogs
 pub mod NamesPut

@@ -28,7 +28,7 @@ use Rattle.ig_stage.specs.Listings.{DoesList, DoesListAll}
 use Rattle.ig_stage.specs.Open.{Does, Makes, StaysOpen}
 use Rattle.ig_stage.specs.Shown.{IsNameOf, IsSet, Marks, ShowsTask}
 use Rattle.ig_task.specs.Kinds.{kinds}
-use Rattle.ig_stage.proofs.FilesAt.{path_within}
+use Rattle.ig_queue.specs.FilesAt.{path_within}
 use Rattle.ig_stage.proofs.Flags.{marks_then}
 use Rattle.ig_stage.proofs.NamesShown.{ShowsOne, shown_by, shows_it}
 use Rattle.ig_stage.proofs.OpenLogs.{does_one, does_then}

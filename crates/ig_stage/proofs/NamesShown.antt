@@ -10,7 +10,7 @@ use Rattle.ig_meaning.specs.QueueActs.{IsShown, is_queued, is_dead, is_done}
 use Rattle.ig_stage.specs.Shown.{IsNameOf, ShowsTask, listed_dir}
 use Rattle.ig_stage.specs.declared.shown.Listing.{Listing}
 use Rattle.ig_stage.specs.declared.shown.Listing.TheVariants as listing
-use Rattle.ig_stage.proofs.FilesAt.{dead_folder, dead_name, done_folder, done_name, queued_folder, queued_name, task_fit}
+use Rattle.ig_queue.specs.FilesAt.{dead_folder, dead_name, done_folder, done_name, queued_folder, queued_name, task_fit}
 
 pub same_id : (x y : TaskId) → ◌≡◌ {A = Option TaskId} (Some x) (Some y) → x ≡ y
 same_id x y e = cc

@@ -1,5 +1,5 @@
 -- The names of records, and how many stages they tell.
-use Rattle.std.proofs.Common.{arith, inl, inr, ◌⊎◌, ◌≡◌, ◌<◌, ◌+◌, ◌^◌, ◌∙◌, ℕ, zero, suc, max, Bool, true, false, if◌then◌else◌, List, ◌∷◌, Option, None, Some, IfSome, IsNone, length, drop, get_or, codes, refl, ap, sym, append_assoc}
+use Rattle.std.proofs.Common.{arith, inl, inr, ◌⊎◌, ◌≡◌, ◌<◌, ◌+◌, ◌^◌, ◌∙◌, ℕ, zero, suc, max, Bool, true, false, if◌then◌else◌, List, Option, None, Some, IfSome, IsNone, length, drop, get_or, refl, ap, sym}
 use Rattle.std.proofs.Math.Seq.{drop-cons, drop-length}
 use Rattle.std.proofs.lemmas.Bool.{cases_Bool, lt-ltb, ltb-true}
 use Rattle.std.proofs.lemmas.Bool.Decides.{nat_tests}
@@ -8,19 +8,8 @@ use Rattle.std.specs.Str.{bytes_eq}
 use Rattle.ig_defs.specs.QueueNames.{stage_file, stage_fits}
 use Rattle.ig_defs.specs.QueueNameLaws.{stage_file-same}
 use Rattle.ig_layer.specs.Faults.{first_of, or_else}
-use Rattle.ig_meaning.specs.QueueMaking.{beyond, record_count, record_path, seal_path, stage_named, stages_dir}
-use Rattle.ig_rule.specs.QueueFiles.{folder, file_name}
-use Rattle.ig_space.specs.Path.{joined}
+use Rattle.ig_meaning.specs.QueueMaking.{beyond, record_count, stage_named}
 use Rattle.ig_task.specs.Lists.{first_of-from}
-
--- the path of a record
-pub record_path_is : (q name : List ℕ) (n : ℕ) → name ≡ stage_file n → joined (stages_dir q) name ≡ record_path q n
-unfolding folder file_name
-record_path_is q name n is = ap (joined (stages_dir q)) is ∙ append_assoc q (47 ∷ codes "stages") (47 ∷ stage_file n)
-
-pub seal_path_is : (q name : List ℕ) (n : ℕ) → name ≡ stage_file n → joined (joined q (codes "seals")) name ≡ seal_path q n
-unfolding folder file_name
-seal_path_is q name n is = ap (joined (joined q (codes "seals"))) is ∙ append_assoc q (47 ∷ codes "seals") (47 ∷ stage_file n)
 
 -- ---- one name
 

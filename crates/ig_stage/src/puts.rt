@@ -15,7 +15,8 @@ ghost use Rattle.ig_stage.specs.Open.{AllNamed, Does, DoesSome, HasInfo, Makes, 
 ghost use Rattle.ig_stage.specs.Shown.{if_unset, name_puts, unset, IsSet};
 
 use crate::calls::put;
-use crate::paths::{name_path, seal_path};
+use crate::paths::name_path;
+use ig_queue::seal_path;
 use ig_record::{Stage, write_task};
 use ig_space::{Path, TaskId};
 use ig_store::{Store, StoreError};

@@ -19,8 +19,7 @@ ghost use Rattle.ig_stage.specs.Recorded.{FindsRecord, FindsRecords, GivesStage,
 
 use crate::MakeError;
 use crate::calls::{names, read};
-use crate::paths::{record_path, stages_dir};
-use ig_queue::parse_stage_name;
+use ig_queue::{parse_stage_name, record_path, stages_dir};
 use ig_record::{RecordError, Stage, read_stage};
 use ig_space::{Bytes, List, Names, Path, Text};
 use ig_store::Store;

@@ -15,8 +15,8 @@ ghost use Rattle.ig_stage.specs.Looking.{Looks};
 ghost use Rattle.ig_stage.specs.Recorded.{by_seal, FindsSeal};
 
 use crate::calls::has;
-use crate::paths::seal_path;
 use crate::{MakeError, Stages};
+use ig_queue::seal_path;
 use ig_space::Path;
 use ig_store::Store;
 use ig_task::Pipeline;

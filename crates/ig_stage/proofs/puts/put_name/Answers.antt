@@ -2,7 +2,7 @@ use Rattle.std.proofs.Common.{◌∙◌}
 use Rattle.ig_rule.specs.QueueFiles.{queue_of}
 use Rattle.ig_rule.specs.Stages.{Named, task_id}
 use Rattle.ig_meaning.specs.QueueActs.{name_file}
-use Rattle.ig_stage.proofs.FilesAt.{fresh_fit}
+use Rattle.ig_queue.specs.FilesAt.{fresh_fit}
 use Rattle.ig_stage.proofs.OpenKept.{name_keeps, name_there}
 use Rattle.ig_stage.proofs.OpenLogs.{makes_stays, put_as, put_does, put_leaves, put_stays_open}
 use Rattle.ig_stage.proofs.SomeSteps.{put_some, some_nothing}

@@ -2,7 +2,7 @@ use Rattle.std.proofs.Common.{refl}
 use Rattle.ig_rule.specs.QueueFiles.{Seal, path_of, queue_of}
 use Rattle.ig_rule.specs.Rule.{seal_text}
 use Rattle.ig_rule.specs.Stages.{Sealed}
-use Rattle.ig_stage.proofs.FilesAt.{stage_fit}
+use Rattle.ig_queue.specs.FilesAt.{stage_fit}
 use Rattle.ig_stage.proofs.OpenKept.{put_there}
 use Rattle.ig_stage.proofs.OpenLogs.{put_as, put_leaves, seal_stays_legal}
 use Rattle.ig_stage.proofs.SomeSteps.{put_some, some_nothing}

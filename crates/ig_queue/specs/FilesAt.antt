@@ -6,7 +6,7 @@ use Rattle.ig_space.specs.Path.{joined}
 use Rattle.ig_space.specs.declared.task_id.TaskId.{TaskId}
 use Rattle.ig_defs.specs.QueueNames.{queue_file, stage_file, task_file}
 use Rattle.ig_defs.specs.declared.queue_name.QueueName.{QueueName}
-use Rattle.ig_rule.specs.QueueFiles.{QueueFile, Seal, Queued, Dead, Done, file_name, fits, folder, path_of}
+use Rattle.ig_rule.specs.QueueFiles.{QueueFile, Record, Seal, Queued, Dead, Done, file_name, fits, folder, path_of}
 use Rattle.ig_rule.specs.Rule.{fresh_name}
 use Rattle.ig_rule.specs.Stages.{task_id}
 
@@ -50,6 +50,27 @@ path_from q dir name x within is = ap (λ d. joined q (joined d name)) within �
 -- or its name in that directory
 pub path_within : (q dir name : List ℕ) (x : QueueFile) → dir ≡ folder x → name ≡ file_name x → joined (joined q dir) name ≡ path_of q x
 path_within q dir name x within is = append_assoc q (47 ∷ dir) (47 ∷ name) ∙ path_from q dir name x within is
+
+-- so are those of each sort
+pub record_path_is : (q name : List ℕ) (n : ℕ) → name ≡ stage_file n → joined (joined q (codes "stages")) name ≡ path_of q (Record n)
+unfolding folder file_name
+record_path_is q name n is = path_within q (codes "stages") name (Record n) refl is
+
+pub seal_path_is : (q name : List ℕ) (n : ℕ) → name ≡ stage_file n → joined (joined q (codes "seals")) name ≡ path_of q (Seal n)
+unfolding folder file_name
+seal_path_is q name n is = path_within q (codes "seals") name (Seal n) refl is
+
+pub queued_path_is : (q text : List ℕ) (name : QueueName) → text ≡ queue_file name → joined (joined q (codes "queue")) text ≡ path_of q (Queued name)
+unfolding folder file_name
+queued_path_is q text name is = path_within q (codes "queue") text (Queued name) refl is
+
+pub dead_path_is : (q text : List ℕ) (id : TaskId) → text ≡ task_file id → joined (joined q (codes "dead")) text ≡ path_of q (Dead id)
+unfolding folder file_name
+dead_path_is q text id is = path_within q (codes "dead") text (Dead id) refl is
+
+pub done_path_is : (q text : List ℕ) (id : TaskId) → text ≡ task_file id → joined (joined q (codes "done")) text ≡ path_of q (Done id)
+unfolding folder file_name
+done_path_is q text id is = path_within q (codes "done") text (Done id) refl is
 
 -- ---- numbers with their places
 

@@ -1,7 +1,7 @@
 use Rattle.std.proofs.Common.{◌≡◌, IfOk, ap, subst, ◌∙◌}
 use Rattle.ig_space.specs.Path.{joined}
-use Rattle.ig_stage.proofs.StageNames.{record_path_is}
-use Rattle.ig_stage.proofs.paths.record_path.Goals as goal
+use Rattle.ig_queue.specs.FilesAt.{record_path_is}
+use Rattle.ig_queue.proofs.paths.record_path.Goals as goal
 
 pub returns : goal.returns
 returns c =

@@ -1,0 +1,108 @@
+-- A move of a name in the queue: what is said of it where it wasn't begun, and that it leaves a legal log.
+use Rattle.std.proofs.Common.{arith, ◌≡◌, ◌<◌, ◌+◌, ◌^◌, ℕ, min, Bool, true, false, if◌then◌else◌, ◌&&◌, nat_lt, List, [], ◌∷◌, None, Some, is_some, IsErrAnd, Result, Ok, Err, inl, inr, refl, ap, sym, subst, ◌∙◌, append-nil}
+use Rattle.std.proofs.lemmas.Bool.{and_parts, and_from, lt-ltb}
+use Rattle.ig_defs.specs.declared.error.StoreError.{StoreError}
+use Rattle.ig_defs.specs.declared.error.StoreError.TheVariants.{Failed, Memory}
+use Rattle.ig_defs.specs.declared.queue_name.QueueName.{QueueName}
+use Rattle.ig_defs.specs.declared.step.Act.{Act}
+use Rattle.ig_defs.specs.declared.step.Act.TheVariants as act
+use Rattle.ig_defs.specs.declared.step.Step.{Step}
+use Rattle.ig_defs.specs.Calls.{TakesShift}
+use Rattle.ig_defs.specs.Files.{Files, file_at}
+use Rattle.ig_defs.specs.Log.{Log, Turn, ByOthers, after, files_of, own_all, replay}
+use Rattle.ig_defs.specs.QueueNames.{queue_fits, task_fits, task_of}
+use Rattle.ig_rule.specs.Beside.{others_then_own_legal}
+use Rattle.ig_rule.specs.Facts.{Reader}
+use Rattle.ig_rule.specs.QueueFiles.{QueueFile, Queued, fits, path_of, queue_of}
+use Rattle.ig_rule.specs.Roles.{Allows}
+use Rattle.ig_rule.specs.Rule.{Allowed, MayBecome, MayMove}
+use Rattle.ig_rule.specs.Sound.{AreAllowedSteps, Legal}
+use Rattle.ig_rule.specs.Stages.{stages_in}
+use Rattle.ig_rule.specs.declared.role.Role.{Role}
+use Rattle.ig_queue.specs.Moves.{OthersKeep, close_made, lease_made, leased_name}
+use Rattle.ig_queue.specs.declared.types.Closed.{Closed}
+use Rattle.ig_queue.specs.declared.types.Lease.{Lease}
+
+-- ---- nothing was done
+
+no_step : (allows : Bool → Files → Act → Type 0) (log : Log) (P : Files → List Step → List Act → Type 0) → P (files_of log) [] [] → Turn allows log log P
+no_step allows log P holds = record { others = []; acts = []; by_others = tt; opening = refl; grown = sym (append-nil log.steps); files = refl; took = holds }
+
+pub not_leased : (allows : Bool → Files → Act → Type 0) (log : Log) (from to : List ℕ) (result : Result Lease StoreError) → IsErrAnd result (λ e. e ≡ Memory)
+    → Turn allows log log (TakesShift from to (lease_made result))
+not_leased allows log from to (Ok lease) wants = absurd wants
+not_leased allows log from to (Err Memory) wants = no_step allows log _ refl
+not_leased allows log from to (Err Failed) wants = absurd (cc)
+
+pub not_closed : (allows : Bool → Files → Act → Type 0) (log : Log) (from to : List ℕ) (result : Result Closed StoreError) → IsErrAnd result (λ e. e ≡ Memory)
+    → Turn allows log log (TakesShift from to (close_made result))
+not_closed allows log from to (Ok closed) wants = absurd wants
+not_closed allows log from to (Err Memory) wants = no_step allows log _ refl
+not_closed allows log from to (Err Failed) wants = absurd (cc)
+
+-- ---- the log stays legal
+
+by_others_as : (allows : Bool → Files → Act → Type 0) (read : Reader) (role : Role) (q : List ℕ) → OthersKeep allows read role q → (files : Files) (steps : List Step)
+    → ByOthers allows files steps → ByOthers (Allows read role (Some q)) files steps
+by_others_as allows read role q keep files [] by = tt
+by_others_as allows read role q keep files (step ∷ steps) by = (by.0, keep files step.act by.1, by_others_as allows read role q keep (after files step.act) steps by.2)
+
+-- the own acts of a move are allowed, where the move of a file that is there is
+own_allowed : (read : Reader) (q from to : List ℕ) (files : Files) (others : List Step) (acts : List Act) (result : Result Bool StoreError) → TakesShift from to result files others acts
+    → (is_some (file_at (replay files others) from) ≡ true → Allowed read q (replay files others) (act.Move from to))
+    → AreAllowedSteps read q (replay files others) (own_all acts)
+own_allowed read q from to files others acts (Ok true) took may = subst (λ own. AreAllowedSteps read q (replay files others) (own_all own)) (sym took.0) (may took.1, tt)
+own_allowed read q from to files others acts (Ok false) took may = subst (λ own. AreAllowedSteps read q (replay files others) (own_all own)) (sym took.0) (tt, tt)
+own_allowed read q from to files others acts (Err Failed) (inl none) may = subst (λ own. AreAllowedSteps read q (replay files others) (own_all own)) (sym none) tt
+own_allowed read q from to files others acts (Err Failed) (inr made) may = subst (λ own. AreAllowedSteps read q (replay files others) (own_all own)) (sym made.0) (may made.1, tt)
+own_allowed read q from to files others acts (Err Memory) took may = subst (λ own. AreAllowedSteps read q (replay files others) (own_all own)) (sym took) tt
+
+may_move : (read : Reader) (q : List ℕ) (files : Files) (name : QueueName) (other : QueueFile) → queue_fits name ≡ true → fits other ≡ true
+    → MayBecome (stages_in read q files) files (Queued name) other → is_some (file_at files (path_of q (Queued name))) ≡ true
+    → MayMove (stages_in read q files) (queue_of q files) q files (path_of q (Queued name)) (path_of q other)
+may_move read q files name other fitting fits becomes there = record {
+  name = Queued name;
+  other = other;
+  from_is = refl;
+  to_is = refl;
+  there = ap (λ b. is_some (if b then file_at files (path_of q (Queued name)) else None)) fitting ∙ there;
+  fitting = fits;
+  becomes = becomes;
+}
+
+-- a name in the queue that becomes another of its task
+abbrev pub BecomesBeside : (Bool → Files → Act → Type 0) → Reader → List ℕ → Files → QueueName → QueueFile → Type 0
+BecomesBeside allows read q files name other =
+    (others : List Step) → ByOthers allows files others → MayBecome (stages_in read q (replay files others)) (replay files others) (Queued name) other
+
+moved_legal : (allows : Bool → Files → Act → Type 0) (read : Reader) (role : Role) (q : List ℕ) (old new : Log) (name : QueueName) (other : QueueFile) (result : Result Bool StoreError)
+    → queue_fits name ≡ true → fits other ≡ true → Turn allows old new (TakesShift (path_of q (Queued name)) (path_of q other) result)
+    → OthersKeep allows read role q → BecomesBeside allows read q (files_of old) name other → Legal read q old → Legal read q new
+moved_legal allows read role q old new name other result fitting fits t keep becomes =
+    others_then_own_legal read role q old new t.others t.acts (by_others_as allows read role q keep (files_of old) t.others t.by_others) t.opening t.grown
+    (own_allowed read q (path_of q (Queued name)) (path_of q other) (files_of old) t.others t.acts result t.took
+    (may_move read q (replay (files_of old) t.others) name other fitting fits (becomes t.others t.by_others)))
+
+pub move_legal : (allows : Bool → Files → Act → Type 0) (read : Reader) (role : Role) (q : List ℕ) (old new : Log) (name : QueueName) (other : QueueFile) (from to : List ℕ)
+    (result : Result Bool StoreError) → queue_fits name ≡ true → fits other ≡ true → from ≡ path_of q (Queued name) → to ≡ path_of q other
+    → Turn allows old new (TakesShift from to result)
+    → OthersKeep allows read role q → BecomesBeside allows read q (files_of old) name other → Legal read q old → Legal read q new
+move_legal allows read role q old new name other from to result fitting fits from_is to_is t =
+    moved_legal allows read role q old new name other result fitting fits
+    (subst (λ path. Turn allows old new (TakesShift (path_of q (Queued name)) path result)) to_is
+    (subst (λ path. Turn allows old new (TakesShift path to result)) from_is t))
+
+-- ---- numbers have their places
+
+pub leased_fits : (now seconds : ℕ) (name : QueueName) → queue_fits name ≡ true → name.attempt < 999 → queue_fits (leased_name now seconds name) ≡ true
+leased_fits now seconds name fitting few =
+    let parts = and_parts (nat_lt name.visible (10 ^ 10)) (task_fits (task_of name) && nat_lt name.attempt (10 ^ 3)) fitting in
+    let later = and_parts (task_fits (task_of name)) (nat_lt name.attempt (10 ^ 3)) parts.1 in
+    and_from (nat_lt (min (now + seconds) 9999999999) (10 ^ 10)) (task_fits (task_of name) && nat_lt (name.attempt + 1) (10 ^ 3))
+    (lt-ltb (min (now + seconds) 9999999999) (10 ^ 10) (omega arith))
+    (and_from (task_fits (task_of name)) (nat_lt (name.attempt + 1) (10 ^ 3)) later.0 (lt-ltb (name.attempt + 1) (10 ^ 3) (omega (arith, few))))
+
+pub task_fits_of : (name : QueueName) → queue_fits name ≡ true → task_fits (task_of name) ≡ true
+task_fits_of name fitting =
+    let parts = and_parts (nat_lt name.visible (10 ^ 10)) (task_fits (task_of name) && nat_lt name.attempt (10 ^ 3)) fitting in
+    (and_parts (task_fits (task_of name)) (nat_lt name.attempt (10 ^ 3)) parts.1).0
