@@ -1,0 +1,110 @@
+-- What is so where a worker waits, and where it tells dead letters.
+use Rattle.std.specs.Prelude.{◌≡◌, ◌≤◌, ◌<◌, ℕ, true, List, [], ◌∷◌, length, Option, None, Some, Contains, IsSome, is_some, codes, refl}
+use Rattle.std.specs.FinMap as maps
+use Rattle.std.proofs.Common.{arith, ap, sym, subst, true≢false, ◌∙◌}
+use Rattle.ig_space.specs.Path.{is_path, joined}
+use Rattle.ig_space.specs.declared.task_id.TaskId.{TaskId}
+use Rattle.ig_defs.specs.declared.step.Step.{Step}
+use Rattle.ig_defs.specs.Files.{Files}
+use Rattle.ig_defs.specs.Log.{ByOthers, Log, after, files_of}
+use Rattle.ig_defs.specs.Names.{Stands, StandsOnce, StandsThroughout}
+use Rattle.ig_defs.specs.QueueNames.{task_file, task_fits}
+use Rattle.ig_defs.specs.QueueNameLaws.{is_segment-task_file, length-task_file}
+use Rattle.ig_queue.specs.FilesAt.{done_path_is}
+use Rattle.ig_rule.specs.Facts.{Facts}
+use Rattle.ig_rule.specs.Prefixes.{legal_sound}
+use Rattle.ig_rule.specs.QueueFiles.{Done, queue_of}
+use Rattle.ig_rule.specs.QueueSteps.{holds}
+use Rattle.ig_rule.specs.Roles.{Allows}
+use Rattle.ig_rule.specs.declared.role.Role.{Role}
+use Rattle.ig_rule.specs.Sound.{Sound}
+use Rattle.ig_rule.specs.SoundKept.{sound_kept}
+use Rattle.ig_rule.specs.Stages.{stages_in}
+use Rattle.ig_task.specs.Facts.{facts_of, stage_reader}
+use Rattle.ig_task.specs.Kinds.{kinds}
+use Rattle.ig_worker.specs.declared.plan.Plan.{Plan}
+use Rattle.ig_worker.specs.EndsEnding.{Ending, IsRecorded}
+use Rattle.ig_worker.specs.EndsLasts.{lasts_others}
+use Rattle.ig_worker.specs.EndsLeft.{AreDifferent, all_left, different-all_left, left_is, length-all_left}
+use Rattle.ig_worker.specs.EndsNames.{among_listed, name_in, shown_from, shown_is}
+use Rattle.ig_worker.specs.KeepsLists.{map_in, none_in}
+use Rattle.ig_worker.specs.Knows.{kept_of}
+use Rattle.ig_worker.specs.Moves.{Move}
+use Rattle.ig_worker.specs.Places.{State}
+use Rattle.ig_worker.specs.Plans.{HasLimits}
+use Rattle.ig_worker.specs.Stages.{all_unlisted, tasks_listed}
+
+-- ---- tasks that aren't done
+-- A task of a stage that is recorded in this log, which has no done name there.
+pub record IsNotDone (plan : Plan) (log : Log) (id : TaskId) : Type 0 where
+  pub stage : Facts
+  pub is : IsRecorded plan log id.stage stage
+  pub below : id.task < stage.tasks
+  pub not_done : queue_of plan.queue (files_of log) (Done id) ≡ None
+
+-- So many different tasks aren't done.
+pub record AreNotDone (plan : Plan) (log : Log) (n : ℕ) : Type 0 where
+  pub tasks : List TaskId
+  pub count : length tasks ≡ n
+  pub different : AreDifferent tasks
+  pub each : (id : TaskId) → Contains tasks id → IsNotDone plan log id
+
+-- the done name of a task that is done stands,
+done_stands : (q : List ℕ) → is_path q ≡ true → length q ≤ 100 → (files : Files) (id : TaskId) → IsSome (queue_of q files (Done id)) → Stands files (joined q (codes "done")) (task_file id)
+done_stands q path short files id there =
+    let h = holds q files (Done id) there in
+    let long : length (codes "done") ≡ 4 = refl in
+    record {
+      named = name_in q (codes "done") (task_file id) path short refl (omega (arith, long)) (is_segment-task_file id) (omega (arith, length-task_file id));
+      there = ap (λ p. is_some (maps.get files p)) (done_path_is q (task_file id) id refl) ∙ ap is_some h.stands;
+    }
+
+-- and does so throughout
+done_throughout : (role : Role) (q : List ℕ) → is_path q ≡ true → length q ≤ 100 → (files : Files) (others : List Step) → ByOthers (Allows stage_reader role (Some q)) files others → Sound stage_reader q files
+    → (id : TaskId) → IsSome (queue_of q files (Done id)) → StandsThroughout files others (joined q (codes "done")) (task_file id)
+done_throughout role q path short files [] by sound id there = done_stands q path short files id there
+done_throughout role q path short files (step ∷ steps) by sound id there =
+    let one : ByOthers (Allows stage_reader role (Some q)) files (step ∷ []) = (by.0, by.1, tt) in (
+      done_stands q path short files id there,
+      done_throughout role q path short (after files step.act) steps by.2 (sound_kept stage_reader kinds q files step.act sound by.1.0) id ((lasts_others role q files (step ∷ []) one sound).done id there),
+    )
+
+none_by : (o : Option (List ℕ)) → (IsSome o → ⊥) → o ≡ None
+none_by None no_way = refl
+none_by (Some bytes) no_way = absurd (no_way refl)
+
+-- ---- where no dead letter was listed
+module _ (role : Role) (plan : Plan) (mid : Log) (ms : List Move) (next : State) (new : Log) (e : Ending role plan mid ms next new) where
+  limits : HasLimits plan
+  limits = subst HasLimits e.before_dones.place.of_plan e.before_dones.place.fit.notes.plan
+
+  left_not_done : (id : TaskId) → Contains (all_left e.done_names e.notes.known) id → IsNotDone plan e.dones id
+  left_not_done id among =
+      let q = plan.queue in
+      let h = left_is e.done_names e.notes.known id among in
+      let recorded = e.before_dones.known.stages (kept_of (id.stage, h.stage)) (map_in kept_of e.notes.known (id.stage, h.stage) h.among) in
+      let sound = legal_sound stage_reader kinds q e.dones e.before_dones.legal in
+      let l = e.lists_done in
+      record {
+        stage = facts_of id.stage h.stage;
+        is = subst (λ (p : Plan). stages_in stage_reader p.queue (files_of e.dones) id.stage ≡ Some (facts_of id.stage h.stage)) e.before_dones.place.of_plan recorded;
+        below = h.below;
+        not_done = none_by (queue_of q (files_of e.dones) (Done id)) (λ there.
+            let stood = done_throughout role q limits.path limits.short (files_of e.dones) l.acted.others l.acted.by sound id there in
+            true≢false (sym (among_listed e.done_names (task_file id) (l.names.each (task_file id) stood)) ∙ h.unlisted));
+      }
+
+  pub are_not_done : (n : ℕ) → all_unlisted e.done_names e.notes.known ≡ n → AreNotDone plan e.dones n
+  are_not_done n count = record {
+    tasks = all_left e.done_names e.notes.known;
+    count = length-all_left e.done_names e.notes.known ∙ count;
+    different = different-all_left e.done_names e.notes.known e.before_dones.place.fit.notes.known.ascending;
+    each = left_not_done;
+  }
+
+  pub no_dead_stood : tasks_listed e.dead_names ≡ [] → (id : TaskId) → task_fits id ≡ true → StandsThroughout (files_of e.deads) e.lists_dead.acted.others (joined plan.queue (codes "dead")) (task_file id) → ⊥
+  no_dead_stood none id fit stood = none_in id (subst (λ ids. Contains ids id) none (shown_is e.dead_names id fit (e.lists_dead.names.each (task_file id) stood)))
+
+  -- each dead letter that is told stood
+  pub dead_stood : (id : TaskId) → Contains (tasks_listed e.dead_names) id → StandsOnce (files_of e.deads) e.lists_dead.acted.others (joined plan.queue (codes "dead")) (task_file id)
+  dead_stood id among = e.lists_dead.names.only (task_file id) (shown_from e.dead_names id among).given
