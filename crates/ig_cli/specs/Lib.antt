@@ -5,3 +5,5 @@ pub mod Words
 pub mod Report
 pub mod Performed
 pub mod Printed
+pub mod Worked
+pub mod Working

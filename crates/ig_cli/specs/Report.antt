@@ -4,6 +4,9 @@ use Rattle.ig_defs.specs.Causes.{Rose}
 use Rattle.ig_store.specs.Sink.{TakesPrefix}
 use Rattle.ig_meaning.specs.Ending.{Ending, Finished, Refuses, StoreFailed, NoMemory}
 use Rattle.ig_meaning.specs.Lines.{fault_line, memory_text, queue_line, ran_line, refusal_text, store_text, words_text}
+use Rattle.ig_meaning.specs.Refusal as meaning
+use Rattle.ig_worker.specs.declared.error.WorkerError.{WorkerError}
+use Rattle.ig_worker.specs.declared.error.WorkerError.TheVariants.{Absent, BadRecord, Failed, Memory}
 use Rattle.ig_cli.specs.declared.done.Done.{Done}
 use Rattle.ig_cli.specs.declared.done.Done.TheVariants.{Ran, Made}
 use Rattle.ig_cli.specs.declared.lines.FaultLine.{FaultLine}
@@ -27,6 +30,13 @@ ended_of_error (Local e) = Ends (ending_of_local e)
 abbrev pub ended_of : Result Done CommandError → Ended
 ended_of (Ok done) = Ends Finished
 ended_of (Err e) = ended_of_error e
+
+-- the ending of a command that a worker's error ends
+abbrev pub ending_of_worker : WorkerError → Ending
+ending_of_worker (Absent path) = Refuses (meaning.Missing path)
+ending_of_worker (BadRecord path member) = Refuses (meaning.BadRecord path member)
+ending_of_worker Failed = StoreFailed
+ending_of_worker Memory = NoMemory
 
 -- the statuses that may come; 7 in place of 0 or 5 where memory for the line runs out, 9 where the output failed
 abbrev pub IsStatusOf : Ended → ℕ → Type 0

@@ -1,5 +1,5 @@
 -- What the words of the command line ask for.
-use Rattle.std.specs.Prelude.{◌≡◌, ◌≤◌, ℕ, true, List, length, IfSome, String, map, option_map, string_bytes}
+use Rattle.std.specs.Prelude.{◌≡◌, ◌≤◌, ◌^◌, ℕ, true, List, length, IfSome, String, map, option_map, string_bytes}
 use Rattle.std.specs.declared.alloc.Global.{Global}
 use Rattle.ig_space.specs.Path.{is_path}
 use Rattle.ig_meaning.specs.QueueWords.{is_apart}
@@ -7,6 +7,8 @@ use Rattle.ig_meaning.specs.Words as meaning
 use Rattle.ig_meaning.specs.Words.{Request}
 use Rattle.ig_stage.specs.declared.request.Request as reading
 use Rattle.ig_stage.specs.Requests.{HasLimits, HasSides, shown_coding, shown_request}
+use Rattle.ig_worker.specs.declared.plan.Plan.{Plan}
+use Rattle.ig_cli.specs.declared.plan_words.Numbers.{Numbers}
 use Rattle.ig_cli.specs.declared.words.Command.{Command}
 use Rattle.ig_cli.specs.declared.words.Command.TheVariants.{Copy, Enqueue}
 use Rattle.ig_cli.specs.declared.words.Sizes.{Sizes}
@@ -41,3 +43,13 @@ pub record CanHold (queue : List ℕ) (request : reading.Request) : Type 0 where
 abbrev pub IsLawful : Command → Type 0
 IsLawful (Copy request) = HasLimits request
 IsLawful (Enqueue queue request) = HasLimits request × CanHold queue request
+
+-- the plan of a worker on this queue with these numbers
+abbrev pub plan_from : List ℕ → Numbers → Plan
+plan_from queue numbers = record { queue = queue; lease = numbers.lease; tries = numbers.tries; turns = numbers.turns; parallel = 1 }
+
+-- each of them is within its limits
+pub record HasNumbers (numbers : Numbers) : Type 0 where
+  pub lease : (1 ≤ numbers.lease) × (numbers.lease ≤ 10 ^ 6)
+  pub tries : (1 ≤ numbers.tries) × (numbers.tries ≤ 100)
+  pub turns : (1 ≤ numbers.turns) × (numbers.turns ≤ 10 ^ 9)

@@ -1,21 +1,20 @@
 //! The lines of commands that ended early, each with its line end.
 ghost use Rattle.std.specs.Prelude.{◌≡◌, IfOk, codes, string_bytes};
-ghost use Rattle.std.specs.Fmt.{decimal};
-ghost use Rattle.ig_layer.specs.Faults as layer;
 ghost use Rattle.ig_meaning.specs.Refusal as refusal;
 ghost use Rattle.ig_meaning.specs.Ending.{Refuses};
 ghost use Rattle.ig_meaning.specs.Lines.{axis_text, fault_line, refusal_text, spaced};
 ghost use Rattle.ig_cutout.specs.Inputs.{cause_of};
 ghost use Rattle.ig_stage.specs.Errors.{ending_of_make};
 ghost use Rattle.ig_stage.specs.Running.{ending_of_local, ending_of_run};
-ghost use Rattle.ig_cli.specs.Report.{shown_line, status_of, Ends, Tells};
+ghost use Rattle.ig_cli.specs.Report.{ending_of_worker, shown_line, status_of, Ends, Tells};
 
+use crate::causes::cause_text;
 use crate::done::four_digits;
-use ig_cseg::CsegFault;
 use ig_cutout::Cause;
 use ig_info::InfoError;
 use ig_stage::{LocalError, MakeError};
 use ig_task::RunError;
+use ig_worker::WorkerError;
 use std::alloc::{AllocError, Global};
 
 /// The line on standard error of a command that ended early.
@@ -139,37 +138,6 @@ fn malformed_at(alloc: Global, path: &str, cause: &str, member: &str) -> Result<
     format!(in alloc; "igneous: malformed {path} {cause} {member}\n")
 }
 
-fn wrong_length(alloc: Global, path: &str, got: u64, want: u64) -> Result<String, AllocError>
-    ensures { IfOk result (λ line. string_bytes line ≡ fault_line (refusal_text (refusal.Malformed path.now (layer.WrongLength got want)))) }
-{
-    format!(in alloc; "igneous: malformed {path} wrong length {got} want {want}\n")
-}
-
-/// The line of a malformed file with this cause at the block with this number.
-fn malformed_block(alloc: Global, path: &str, cause: &str, block: u64) -> Result<String, AllocError>
-    ensures { IfOk result (λ line. string_bytes line ≡ fault_line (spaced (codes "malformed") (spaced path.now (spaced cause.now (decimal block))))) }
-{
-    format!(in alloc; "igneous: malformed {path} {cause} {block}\n")
-}
-
-/// The line of a compressed chunk with this fault.
-fn bad_cseg(alloc: Global, path: &str, fault: &CsegFault) -> Result<String, AllocError>
-    ensures { IfOk result (λ line. string_bytes line ≡ fault_line (refusal_text (refusal.Malformed path.now (layer.BadCseg fault.now)))) }
-{
-    match fault {
-        CsegFault::NotWords => malformed(alloc, path, "not words"),
-        CsegFault::NoChannel => malformed(alloc, path, "no channel"),
-        CsegFault::HeaderShort => malformed(alloc, path, "header short"),
-        CsegFault::BadBits { block } => malformed_block(alloc, path, "bad bits in block", *block),
-        CsegFault::ValuesOutside { block } => {
-            malformed_block(alloc, path, "values outside in block", *block)
-        }
-        CsegFault::TableOutside { block } => {
-            malformed_block(alloc, path, "table outside in block", *block)
-        }
-    }
-}
-
 fn bad_info(alloc: Global, path: &str, cause: &InfoError) -> Result<String, AllocError>
     ensures { IfOk result (λ line. string_bytes line ≡ fault_line (refusal_text (refusal.BadInfo path.now cause.now))) }
 {
@@ -186,10 +154,8 @@ fn bad_info(alloc: Global, path: &str, cause: &InfoError) -> Result<String, Allo
 fn bad_file(alloc: Global, path: &str, cause: &Cause) -> Result<String, AllocError>
     ensures { IfOk result (λ line. string_bytes line ≡ fault_line (refusal_text (refusal.Malformed path.now (cause_of cause.now)))) }
 {
-    match cause {
-        Cause::Length { got, want } => wrong_length(alloc, path, *got, *want),
-        Cause::Cseg(fault) => bad_cseg(alloc, path, fault),
-    }
+    let text = cause_text(alloc, cause)?;
+    malformed(alloc, path, text.as_str())
 }
 
 /// The line of a refusal; that of memory where none was left for it.
@@ -247,9 +213,24 @@ pub fn line_of_local(alloc: Global, e: &LocalError) -> FaultLine
     }
 }
 
+/// The line of a worker that stopped.
+pub fn line_of_worker(alloc: Global, e: &WorkerError) -> FaultLine
+    ensures { Tells (Ends (ending_of_worker e.now)) result }
+{
+    match e {
+        WorkerError::Absent { path } => refused(missing(alloc, path.as_str())),
+        WorkerError::BadRecord { path, member } => {
+            refused(bad_record(alloc, path.as_str(), member.as_str()))
+        }
+        WorkerError::Failed => FaultLine::Store,
+        WorkerError::Memory => FaultLine::Memory,
+    }
+}
+
 #[cfg(test)]
 mod tests {
     use super::*;
+    use ig_cseg::CsegFault;
     use ig_space::{Path, Text};
     use std::process::Abort;
 

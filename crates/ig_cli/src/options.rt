@@ -2,7 +2,7 @@
 ghost use Rattle.std.specs.Prelude.{◌≡◌, ◌<◌, ◌≤◌, ◌&&◌, ◌∷◌, List, ℕ, length, map, option_map, IfOk, IfSome, IsNone, OnOk};
 ghost use Rattle.std.specs.Str.{all_ascii_digits};
 ghost use Rattle.ig_space.specs.Path.{within};
-ghost use Rattle.ig_meaning.specs.Options.{begins_with, cut_at, is_short_path, number_in, number_of, parts_of, side_of, sides_of, values_of};
+ghost use Rattle.ig_meaning.specs.Options.{begins_with, cut_at, is_short_path, number_in, number_of, parts_of, side_of, sides_of, value_or, values_of};
 ghost use Rattle.ig_stage.specs.Requests.{HasSides};
 ghost use Rattle.ig_cli.specs.Options.{both, lent};
 ghost use Rattle.ig_cli.specs.Parts.{read_on, shown, with_last_option, with_last_rest};
@@ -131,6 +131,26 @@ pub fn value_of<'a>(options: &[(&'a str, &'a str)], name: &str) -> Option<Option
         }
     }
     Some(found)
+}
+
+/// The number that the option with this name gives, within these limits; the default where it is not given.
+pub fn number_or(
+    options: &[(&str, &str)],
+    name: &str,
+    default: u64,
+    low: u64,
+    high: u64,
+) -> Option<u64>
+    requires low { low ≤ default }
+    requires high { default ≤ high }
+    ensures value { result ≡ value_or default (number_in low high) (values_of name.now (map both options.now)) }
+    ensures low { IfSome result (λ n. low ≤ n) }
+    ensures high { IfSome result (λ n. n ≤ high) }
+{
+    match value_of(options, name)? {
+        Some(text) => number_in(text, low, high),
+        None => Some(default),
+    }
 }
 
 impl<'a> Parts<'a> {

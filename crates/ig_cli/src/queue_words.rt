@@ -14,7 +14,7 @@ fn after_scheme(text: &str) -> Option<&str>
 }
 
 /// The directory of the queue that a word names.
-fn queue_in(text: &str) -> Option<&str>
+pub fn queue_in(text: &str) -> Option<&str>
     ensures value { option_map text_of result ≡ queue_in text.now }
     ensures path { IfSome result (λ path. is_short_path path.now ≡ true) }
 {

@@ -29,7 +29,7 @@ fn line_of(alloc: Global, e: &CommandError) -> FaultLine
 }
 
 /// Writes the line on standard error, and gives its status. A fault there changes no status.
-fn complain<E: Sink>(line: &FaultLine, err: &mut E) -> u8
+pub fn complain<E: Sink>(line: &FaultLine, err: &mut E) -> u8
     ensures status { result ≡ status_of line.now }
     ensures later { E.faults err.old ≤ E.faults err.new }
     ensures err { E.tells → HasTold (shown_line line.now) (E.faults err.old) (E.faults err.new) (E.taken err.old) (E.taken err.new) }

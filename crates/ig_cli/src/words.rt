@@ -11,7 +11,7 @@ ghost use Rattle.ig_cli.specs.Options.{both, text_of};
 ghost use Rattle.ig_cli.specs.Parts.{shown};
 ghost use Rattle.ig_cli.specs.Words.{HasSizes, IsLawful, request_with, shown_command, texts_of};
 
-use crate::options::{Parts, is_short_path, number_in, parts_of, sides_of, value_of};
+use crate::options::{Parts, is_short_path, number_or, parts_of, sides_of, value_of};
 use crate::queue_words::{is_apart, queue_given};
 use ig_record::Kind;
 use ig_space::{Path, Point};
@@ -48,7 +48,7 @@ fn are_layer_words(source: &str, dest: &str) -> bool
 }
 
 /// The path of a word that is one.
-fn path_of(alloc: Global, word: &str) -> Result<Path, AllocError>
+pub fn path_of(alloc: Global, word: &str) -> Result<Path, AllocError>
     requires { is_path word.now ≡ true }
     ensures { IfOk result (λ path. path ≡ word.now) }
 {
@@ -80,10 +80,7 @@ fn mip_of(options: &[(&str, &str)]) -> Option<u32>
     ensures value { result ≡ value_or 0 (number_in 0 99) (values_of (codes "--mip") (map both options.now)) }
     ensures limit { IfSome result (λ mip. mip ≤ 99) }
 {
-    match value_of(options, "--mip")? {
-        Some(text) => Some(number_in(text, 0, LARGEST_MIP)? as u32),
-        None => Some(0),
-    }
+    Some(number_or(options, "--mip", 0, 0, LARGEST_MIP)? as u32)
 }
 
 /// The sides that the option with this name gives, where it is given.

@@ -1,60 +1,63 @@
-use Rattle.ig_cli.proofs.Completes.{complete, complete_made}
-use Rattle.ig_cli.proofs.Performs.{fault_at, outcome}
-use Rattle.ig_cli.proofs.Promises.{copied, in_order, in_sequence, is_a_status, only_puts, printed, printed_part, refused_judged, to_the_refusal, told_refusal}
+use Rattle.std.proofs.Common.{None, Some, ap, ◌∙◌, refl, sym}
+use Rattle.ig_cli.specs.Words.{texts_of}
 use Rattle.ig_cli.proofs.Drains.{holds_exactly}
-use Rattle.ig_cli.proofs.Makes.{made, printed_made, printed_made_part}
+use Rattle.ig_cli.proofs.TopCall.{not_ready, of_other, of_worker, queue_given, stays_legal, unread_worked, worker_legal}
 use Rattle.ig_cli.proofs.command.igneous.Goals as goal
 
-pub returns-clause-statuses : goal.returns-clause-statuses
-returns-clause-statuses g c = is_a_status _ _ c.report.ensures.status
+-- ---- a worker
+pub returns-in-Ok-Some-clause-statuses : goal.returns-in-Ok-Some-clause-statuses
+returns-in-Ok-Some-clause-statuses g c = of_worker c.work.result c.work.ensures.statuses
 
-pub returns-clause-refused : goal.returns-clause-refused
-returns-clause-refused g c = λ tells. refused_judged _ _ _ c.report.ensures.status (fault_at _ _ _ _ (c.perform-outcome.ensures.performed tells))
+pub returns-in-Ok-Some-clause-complete : goal.returns-in-Ok-Some-clause-complete
+returns-in-Ok-Some-clause-complete g c = λ tells ready store_quiet out_quiet.
+    absurd (not_ready (texts_of c.args.words.now.items) c.in-Ok-Some.plan _ (sym c.in-Ok-Some.field-0-is ∙ c.in-Ok-Some.ensures.value) ready)
 
-pub returns-clause-complete : goal.returns-clause-complete
-returns-clause-complete g c = λ tells.
-    complete _ _ _ _ _ _ _ _ _ c.report.ensures.status c.perform-outcome.ensures.words (c.perform-outcome.ensures.performed tells) c.perform-outcome.ensures.cause c.report.ensures.nine
+pub returns-in-Ok-Some-clause-drained : goal.returns-in-Ok-Some-clause-drained
+returns-in-Ok-Some-clause-drained g c = λ tells q in_use legal.
+    holds_exactly q _
+    (worker_legal (texts_of c.args.words.now.items) c.in-Ok-Some.plan q _ _ (sym c.in-Ok-Some.field-0-is ∙ c.in-Ok-Some.ensures.value) in_use (c.work.ensures.legal tells) legal)
 
-pub returns-clause-complete_made : goal.returns-clause-complete_made
-returns-clause-complete_made g c = λ tells q request asked legal can own.
-    complete_made _ _ _ _ _ _ _ q request c.report.ensures.status c.perform-outcome.ensures.words c.perform-outcome.ensures.cause c.report.ensures.nine asked
-    (c.perform-outcome.ensures.complete tells q request asked can own)
+-- ---- no worker
+pub returns-in-Ok-None-clause-statuses : goal.returns-in-Ok-None-clause-statuses
+returns-in-Ok-None-clause-statuses g c = of_other c.make_or_copy.result c.make_or_copy.ensures.statuses
 
-pub returns-clause-copied : goal.returns-clause-copied
-returns-clause-copied g c = λ tells. copied _ _ _ _ _ c.report.ensures.status (outcome _ _ _ _ (c.perform-outcome.ensures.performed tells))
+pub returns-in-Ok-None-clause-copied : goal.returns-in-Ok-None-clause-copied
+returns-in-Ok-None-clause-copied g c = λ tells zero in_use.
+    c.make_or_copy.ensures.copied tells zero (queue_given (texts_of c.args.words.now.items) None (sym c.in-Ok-None.ensures.value ∙ c.in-Ok-None.field-0-is) in_use)
 
-pub returns-clause-in_sequence : goal.returns-clause-in_sequence
-returns-clause-in_sequence g c = λ tells. in_sequence _ _ _ _ _ c.report.ensures.status (outcome _ _ _ _ (c.perform-outcome.ensures.performed tells))
+pub returns-in-Ok-None-clause-in_sequence : goal.returns-in-Ok-None-clause-in_sequence
+returns-in-Ok-None-clause-in_sequence g c = λ tells zero in_use.
+    c.make_or_copy.ensures.in_sequence tells zero (queue_given (texts_of c.args.words.now.items) None (sym c.in-Ok-None.ensures.value ∙ c.in-Ok-None.field-0-is) in_use)
 
-pub returns-clause-only_puts : goal.returns-clause-only_puts
-returns-clause-only_puts g c = λ tells. only_puts _ _ _ _ (outcome _ _ _ _ (c.perform-outcome.ensures.performed tells))
+pub returns-in-Ok-None-clause-only_puts : goal.returns-in-Ok-None-clause-only_puts
+returns-in-Ok-None-clause-only_puts g c = λ tells in_use.
+    c.make_or_copy.ensures.only_puts tells (queue_given (texts_of c.args.words.now.items) None (sym c.in-Ok-None.ensures.value ∙ c.in-Ok-None.field-0-is) in_use)
 
-pub returns-clause-in_order : goal.returns-clause-in_order
-returns-clause-in_order g c = λ tells. in_order _ _ _ _ (outcome _ _ _ _ (c.perform-outcome.ensures.performed tells))
+pub returns-in-Ok-None-clause-printed : goal.returns-in-Ok-None-clause-printed
+returns-in-Ok-None-clause-printed g c = λ tells out_tells zero in_use.
+    c.make_or_copy.ensures.printed tells out_tells zero (queue_given (texts_of c.args.words.now.items) None (sym c.in-Ok-None.ensures.value ∙ c.in-Ok-None.field-0-is) in_use)
 
-pub returns-clause-to_the_refusal : goal.returns-clause-to_the_refusal
-returns-clause-to_the_refusal g c = λ tells. to_the_refusal _ _ _ _ _ c.report.ensures.status (outcome _ _ _ _ (c.perform-outcome.ensures.performed tells))
+pub returns-in-Ok-None-clause-printed_part : goal.returns-in-Ok-None-clause-printed_part
+returns-in-Ok-None-clause-printed_part g c = λ tells out_tells nine in_use.
+    c.make_or_copy.ensures.printed_part tells out_tells nine (queue_given (texts_of c.args.words.now.items) None (sym c.in-Ok-None.ensures.value ∙ c.in-Ok-None.field-0-is) in_use)
 
-pub returns-clause-printed : goal.returns-clause-printed
-returns-clause-printed g c = λ tells out_tells. printed _ _ _ _ _ _ _ (c.perform-outcome.ensures.performed tells) c.report.ensures.status (c.report.ensures.out out_tells)
+pub returns-in-Ok-None-clause-legal : goal.returns-in-Ok-None-clause-legal
+returns-in-Ok-None-clause-legal g c = λ tells q in_use.
+    c.make_or_copy.ensures.legal tells q (queue_given (texts_of c.args.words.now.items) (Some q) (sym c.in-Ok-None.ensures.value ∙ c.in-Ok-None.field-0-is) in_use)
 
-pub returns-clause-printed_part : goal.returns-clause-printed_part
-returns-clause-printed_part g c = λ tells out_tells. printed_part _ _ _ _ _ _ _ (c.perform-outcome.ensures.performed tells) c.report.ensures.status (c.report.ensures.out out_tells)
+pub returns-in-Ok-None-clause-drained : goal.returns-in-Ok-None-clause-drained
+returns-in-Ok-None-clause-drained g c = λ tells q in_use.
+    c.make_or_copy.ensures.drained tells q (queue_given (texts_of c.args.words.now.items) (Some q) (sym c.in-Ok-None.ensures.value ∙ c.in-Ok-None.field-0-is) in_use)
 
-pub returns-clause-told_refusal : goal.returns-clause-told_refusal
-returns-clause-told_refusal g c = λ tells err_tells quiet.
-    told_refusal _ _ _ _ _ _ c.report.ensures.status (c.report.ensures.err err_tells) quiet _ _ _ (fault_at _ _ _ _ (c.perform-outcome.ensures.performed tells))
+-- ---- memory ran out before that was known
+pub returns-in-Err-clause-statuses : goal.returns-in-Err-clause-statuses
+returns-in-Err-clause-statuses g c = of_other c.make_or_copy-in-Err.result c.make_or_copy-in-Err.ensures.statuses
 
-pub returns-clause-made : goal.returns-clause-made
-returns-clause-made g c = λ tells zero q some. made _ _ _ _ _ (c.perform-outcome.ensures.performed tells) c.report.ensures.status q some zero
+pub returns-in-Err-clause-drained : goal.returns-in-Err-clause-drained
+returns-in-Err-clause-drained g c = λ tells q in_use legal.
+    holds_exactly q _ (stays_legal g.S.Store.log _ _ q (c.make_or_copy-in-Err.ensures.unread refl) legal)
 
-pub returns-clause-printed_made : goal.returns-clause-printed_made
-returns-clause-printed_made g c = λ tells out_tells zero q some.
-    printed_made _ _ _ _ _ (c.perform-outcome.ensures.performed tells) c.report.ensures.status q some _ _ (c.report.ensures.out out_tells) zero
-
-pub returns-clause-printed_made_part : goal.returns-clause-printed_made_part
-returns-clause-printed_made_part g c = λ tells out_tells nine q some.
-    printed_made_part _ _ _ _ _ (c.perform-outcome.ensures.performed tells) c.report.ensures.status q some _ _ (c.report.ensures.out out_tells) nine
-
-pub returns-clause-drained : goal.returns-clause-drained
-returns-clause-drained g c = λ tells q some legal. holds_exactly q _ (c.perform-outcome.ensures.legal tells q some legal)
+pub returns-in-Err-clause-worked : goal.returns-in-Err-clause-worked
+returns-in-Err-clause-worked g c = λ tells plan asked.
+    unread_worked _ plan _ _ _ _ _ _ _ _ _ _ _ _ (ap g.S.Store.log (c.make_or_copy-in-Err.ensures.unread refl)) (c.make_or_copy-in-Err.ensures.unread_status refl)
+    c.make_or_copy-in-Err.ensures.printed_nothing c.make_or_copy-in-Err.ensures.told_memory

@@ -1,7 +1,20 @@
 use Rattle.std.proofs.Common.{Some, ap, ◌∙◌, option_map, sym}
 use Rattle.ig_cli.specs.Words.{shown_command, texts_of}
 use Rattle.ig_cli.proofs.Completes.{can_as}
+use Rattle.ig_cli.proofs.PlanWords.{rule_of_copy, rule_of_enqueue}
 use Rattle.ig_cli.proofs.command.perform.Goals as goal
+
+pub copy-requires-clause-rule : goal.copy-requires-clause-rule
+copy-requires-clause-rule g c =
+    c.requires.rule
+    ∙ rule_of_copy (texts_of c.args.words.now.items) _
+    (sym c.in_ok-request.ensures.value ∙ ap (option_map shown_command) c.in-Some-Copy.is ∙ ap (λ command. Some (shown_command command)) c.in-Some-Copy.field-0-is)
+
+pub enqueue-requires-clause-rule : goal.enqueue-requires-clause-rule
+enqueue-requires-clause-rule g c =
+    c.requires.rule
+    ∙ rule_of_enqueue (texts_of c.args.words.now.items) _ _
+    (sym c.in_ok-request.ensures.value ∙ ap (option_map shown_command) c.in-Some-Enqueue.is ∙ ap (λ command. Some (shown_command command)) c.in-Some-Enqueue.field-0-is)
 
 pub returns-in-Some-Copy-clause-performed : goal.returns-in-Some-Copy-clause-performed
 returns-in-Some-Copy-clause-performed g c = λ tells.

@@ -1,0 +1,95 @@
+-- What the worker of `execute` did, and what was printed of it.
+use Rattle.std.specs.Prelude.{◌≡◌, ◌⊎◌, ◌≤◌, ℕ, Bool, List, [], ◌∷◌, ◌++◌, length, take, Option, None, Some, option_map}
+use Rattle.ig_defs.specs.Causes.{Rose}
+use Rattle.ig_defs.specs.Log.{Log}
+use Rattle.ig_defs.specs.Files.{Files}
+use Rattle.ig_defs.specs.declared.step.Act.{Act}
+use Rattle.ig_rule.specs.Went.{Idled}
+use Rattle.ig_store.specs.Sink.{TakesPrefix}
+use Rattle.ig_meaning.specs.Lines.{fault_line, memory_text, store_text}
+use Rattle.ig_worker.specs.declared.error.WorkerError.TheVariants.{Absent, BadRecord}
+use Rattle.ig_worker.specs.declared.notes.Notes.{Notes}
+use Rattle.ig_worker.specs.declared.phase.Phase.{Phase}
+use Rattle.ig_worker.specs.declared.phase.Phase.TheVariants.{Broken}
+use Rattle.ig_worker.specs.declared.plan.Plan.{Plan}
+use Rattle.ig_worker.specs.declared.turn.End.{End}
+use Rattle.ig_worker.specs.declared.turn.End.TheVariants.{Finished, Waiting, Letters, Spent}
+use Rattle.ig_worker.specs.Course.{Course, end_at, fresh, said_of}
+use Rattle.ig_worker.specs.Lines.{end_text, lines_text}
+use Rattle.ig_worker.specs.Moves.{Move}
+use Rattle.ig_worker.specs.Places.{State}
+use Rattle.ig_cli.specs.Report.{Ends, ending_of_worker, own_line}
+
+-- ---- statuses
+abbrev pub status_of_end : End → ℕ
+status_of_end (Finished tasks) = 0
+status_of_end (Waiting tasks) = 3
+status_of_end (Letters count) = 4
+status_of_end (Spent turns) = 8
+
+-- the status of a worker that stands here: where it has ended, and where it has found no record
+abbrev pub status_at : Notes → Phase → Option ℕ
+status_at notes (Broken (Absent path)) = Some 5
+status_at notes (Broken (BadRecord path member)) = Some 5
+status_at notes phase = option_map status_of_end (end_at notes phase)
+
+-- The status is that of the worker's place; or the store failed, memory ran out, or the output failed.
+abbrev pub IsStatusAt : State → ℕ → Type 0
+IsStatusAt place status = (Some status ≡ status_at place.notes place.phase) ⊎ ((status ≡ 6) ⊎ ((status ≡ 7) ⊎ (status ≡ 9)))
+
+-- ---- what is printed
+abbrev pub last_text : Option End → List ℕ
+last_text None = []
+last_text (Some end) = end_text end
+
+-- all that a worker says of these moves, which led it here
+abbrev pub text_of : List Move → State → List ℕ
+text_of ms place = lines_text (said_of ms) ++ last_text (end_at place.notes place.phase)
+
+-- without the last move
+abbrev pub but_last : List Move → List Move
+but_last [] = []
+but_last (m ∷ []) = []
+but_last (m ∷ next ∷ ms) = m ∷ but_last (next ∷ ms)
+
+-- the first lines of these moves, perhaps without some of the last move
+pub record SaysAlmost (ms : List Move) (before now : List ℕ) : Type 0 where
+  pub count : ℕ
+  pub most : length (said_of (but_last ms)) ≤ count
+  pub lines : now ≡ before ++ lines_text (take count (said_of ms))
+
+-- On standard output: all of it; at a fault of the store its lines, perhaps without some of the last move; where memory ran out
+-- or the output failed, some first part.
+pub record HasSaid (ms : List Move) (place : State) (status : ℕ) (before now : List ℕ) : Type 0 where
+  pub all : ¬ (status ≡ 6) → ¬ (status ≡ 7) → ¬ (status ≡ 9) → now ≡ before ++ text_of ms place
+  pub failed : status ≡ 6 → SaysAlmost ms before now
+  pub part : TakesPrefix before (text_of ms place) now
+
+-- the line of the error that has stopped it
+abbrev pub complaint_at : Phase → List ℕ
+complaint_at (Broken error) = own_line (Ends (ending_of_worker error))
+complaint_at phase = []
+
+-- On standard error, where its count of faults did not rise.
+pub record HasWarned (place : State) (status : ℕ) (before now : List ℕ) : Type 0 where
+  pub refused : status ≡ 5 → now ≡ before ++ complaint_at place.phase
+  pub failed : status ≡ 6 → now ≡ before ++ fault_line store_text
+  pub memory : status ≡ 7 → now ≡ before ++ fault_line memory_text
+  pub none : ¬ (status ≡ 5) → ¬ (status ≡ 6) → ¬ (status ≡ 7) → now ≡ before
+
+-- ---- all of it
+-- The own steps of a worker of this plan, from its beginning to a place, and how it ended there. The clock's last answers are
+-- `from` at first and `to` at last.
+pub record Worked (allows : Bool → Files → Act → Type 0) (plan : Plan) (from to : ℕ) (old new : Log) (ms : List Move) (place : State) (status : ℕ) : Type 0 where
+  pub last : Log
+  pub course : Course allows from (fresh plan) old ms to place last
+  pub rest : Idled allows last new
+  pub ended : IsStatusAt place status
+
+-- The moves and the place are those of what was printed too.
+pub record HasWorked (allows : Bool → Files → Act → Type 0) (plan : Plan) (from to : ℕ) (old new : Log) (status : ℕ) (out_tells : Type 0) (out_before out_now : List ℕ) (err_tells : Type 0) (faults_before faults_now : ℕ) (err_before err_now : List ℕ) : Type 0 where
+  pub ms : List Move
+  pub place : State
+  pub worked : Worked allows plan from to old new ms place status
+  pub said : out_tells → HasSaid ms place status out_before out_now
+  pub warned : err_tells → ¬ Rose faults_before faults_now → HasWarned place status err_before err_now
