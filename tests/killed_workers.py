@@ -1,15 +1,17 @@
 #!/usr/bin/env python3
-"""Eight worker processes over one queue of 512 tasks, killed at random moments and started again till all tasks are done.
+"""Eight worker processes over one queue of 512 tasks, killed or stalled at random moments, and started again till all tasks
+are done.
 
 Usage: tests/killed_workers.py PROGRAM [KILLS [SEED]]
 
-The new layer must then hold the same files as one that a single process copied. Leases are of one second, so that tasks of
-killed workers, and of slow ones, are done again. Prints how many workers were killed, and how many tasks were done late or
-said more than once. It ends with status 1 where the layers differ, or where the queue does not come to its end in time.
+The new layer must then hold the same files as one that a single process copied. Leases are of one second, and a stalled
+worker goes on after more than that, so that its task is done again meanwhile. Prints how many workers were killed and how many
+stalled, and how many tasks were late, or were told of more than once. It ends with status 1 where the layers differ, or where the queue does not come to its end in time.
 """
 import os
 import random
 import shutil
+import signal
 import subprocess
 import sys
 import tempfile
@@ -17,12 +19,15 @@ import time
 
 WORKERS = 8
 SIDE = 8  # chunks on each axis: 512 tasks
-CHUNK = 16  # voxels on each axis of a chunk
-MOST_SECONDS = 90
+CHUNK = 32  # voxels on each axis of a chunk
+CELL = 24  # voxels on each axis of a cell of one label
+STALLS = 16
+STALL_SECONDS = 1.5
+MOST_SECONDS = 100
 
 
 def write_layer(folder, rng):
-    """A segmentation of cells of 24 voxels, in raw chunks of 32-bit labels."""
+    """A segmentation of cells of one label each, in raw chunks of 32-bit labels."""
     size = SIDE * CHUNK
     os.makedirs(f"{folder}/8_8_8")
     with open(f"{folder}/info", "w") as info:
@@ -30,20 +35,23 @@ def write_layer(folder, rng):
             '{"data_type":"uint32","num_channels":1,"scales":[{"chunk_sizes":[[%d,%d,%d]],"encoding":"raw","key":"8_8_8",'
             '"resolution":[8,8,8],"size":[%d,%d,%d]}],"type":"segmentation"}' % ((CHUNK,) * 3 + (size,) * 3)
         )
-    cells = -(-size // 24)
+    cells = -(-size // CELL)
     labels = [rng.randrange(1, 2**32).to_bytes(4, "little") for _ in range(cells**3)]
     for z in range(0, size, CHUNK):
         for y in range(0, size, CHUNK):
             for x in range(0, size, CHUNK):
-                chunk = bytearray()
-                for dz in range(CHUNK):
-                    for dy in range(CHUNK):
-                        row = ((z + dz) // 24 * cells + (y + dy) // 24) * cells
-                        for dx in range(CHUNK):
-                            chunk += labels[row + (x + dx) // 24]
                 name = f"{x}-{x + CHUNK}_{y}-{y + CHUNK}_{z}-{z + CHUNK}"
                 with open(f"{folder}/8_8_8/{name}", "wb") as file:
-                    file.write(chunk)
+                    file.write(chunk_of(labels, cells, x, y, z))
+
+
+def chunk_of(labels, cells, x, y, z):
+    rows = []
+    for dz in range(CHUNK):
+        for dy in range(CHUNK):
+            first = ((z + dz) // CELL * cells + (y + dy) // CELL) * cells
+            rows += [labels[first + (x + dx) // CELL] for dx in range(CHUNK)]
+    return b"".join(rows)
 
 
 def files_of(folder):
@@ -68,31 +76,42 @@ def start(program, out):
     return subprocess.Popen(words, stdout=out, stderr=subprocess.STDOUT)
 
 
+def kill(worker):
+    worker.kill()
+    worker.wait()
+
+
 def work(program, kills, rng, out):
-    """Runs workers till one of them has found all tasks done. Gives how many were killed."""
+    """Runs workers till one of them has found all tasks done. Gives how many were killed, and how many stalled."""
     workers = [start(program, out) for _ in range(WORKERS)]
-    killed, begun, statuses = 0, time.time(), []
+    killed, begun, stalled, statuses = 0, time.time(), [], []
     try:
         while 0 not in statuses:
             if time.time() - begun > MOST_SECONDS:
                 sys.exit("the queue has not come to its end")
-            time.sleep(rng.uniform(0.005, 0.03))
-            if killed < kills:
-                victim = workers[rng.randrange(WORKERS)]
-                if victim.poll() is None:
-                    victim.kill()
-                    victim.wait()
-                    killed += 1
+            time.sleep(rng.uniform(0, 0.002))
+            place = rng.randrange(WORKERS)
+            if workers[place].poll() is None and len(stalled) < STALLS and rng.random() < 0.2:
+                workers[place].send_signal(signal.SIGSTOP)
+                stalled.append((time.time() + STALL_SECONDS, workers[place]))
+                workers[place] = start(program, out)
+            elif workers[place].poll() is None and killed < kills:
+                kill(workers[place])
+                killed += 1
+            for until, worker in stalled:
+                if time.time() > until:
+                    worker.send_signal(signal.SIGCONT)
             for place, worker in enumerate(workers):
-                status = worker.poll()
-                if status is not None:
-                    statuses.append(status)
+                if worker.poll() is not None:
+                    statuses.append(worker.returncode)
                     workers[place] = start(program, out)
-        return killed
+        for _, worker in stalled:
+            worker.send_signal(signal.SIGCONT)
+            worker.wait(timeout=MOST_SECONDS)
+        return killed, len(stalled)
     finally:
-        for worker in workers:
-            worker.kill()
-            worker.wait()
+        for worker in workers + [worker for _, worker in stalled]:
+            kill(worker)
 
 
 def main():
@@ -103,18 +122,18 @@ def main():
     try:
         os.chdir(folder)
         write_layer("seg", rng)
-        shape = f"{CHUNK},{CHUNK},{CHUNK}"
-        print(run(program, "image", "xfer", "seg", "local", "--shape", shape))
-        print(run(program, "image", "xfer", "seg", "copy", "--shape", shape, "--queue", "fq://q"))
+        options = ["--shape", f"{CHUNK},{CHUNK},{CHUNK}", "--encoding", "compressed_segmentation"]
+        print(run(program, "image", "xfer", "seg", "local", *options))
+        print(run(program, "image", "xfer", "seg", "copy", *options, "--queue", "fq://q"))
         with open("lines", "wb") as out:
-            killed = work(program, kills, rng, out)
+            killed, stalled = work(program, kills, rng, out)
         with open("lines") as file:
             said = [line.split() for line in file]
         tasks = [tuple(line[1:3]) for line in said if line and line[0] in ("done", "late", "missing", "dead")]
         late = sum(1 for line in said if line and line[0] == "late")
         again = len(tasks) - len(set(tasks))
         same = files_of("local") == files_of("copy")
-        print(f"killed {killed} late {late} said again {again} done names {len(os.listdir('q/done'))} equal {same}")
+        print(f"killed {killed} stalled {stalled} late {late} told again {again} done names {len(os.listdir('q/done'))} equal {same}")
         if not same or len(os.listdir("q/done")) != SIDE**3:
             sys.exit(1)
     finally:
