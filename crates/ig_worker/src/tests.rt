@@ -98,18 +98,19 @@ fn a_task_is_run_once(rt: HostRuntime) -> Result<(), Failed> {
 /// The steps till a task's input is read: the stages and the record, the queue, the lease, the input.
 const TILL_READ: u64 = 5;
 
-/// Leases the task of one voxel and reads its input, and asserts that it has this name then.
-fn lease<R: Threads + Sync + Abort>(
+/// A worker that has leased the task of one voxel at this second and read its input; the task has this name then.
+fn leased<R: Threads + Sync + Abort>(
     rt: &R,
     alloc: Global,
-    worker: &mut Runner,
     store: &mut MemStore<Pipeline>,
+    at: u64,
     name: &str,
-) -> Result<(), Failed> {
+) -> Result<Runner, Failed> {
+    let mut worker = Runner::new(alloc, at, 5, 100)?;
     let given = worker.steps(rt, store, TILL_READ)?;
     expect(rt, &given, "");
     assert!(rt; has(alloc, store, name));
-    Ok(())
+    Ok(worker)
 }
 
 /// Asserts what the rest of a worker's steps give.
@@ -124,18 +125,25 @@ fn expect_rest<R: Threads + Sync + Abort>(
     Ok(())
 }
 
-/// Lets a worker lease the task of another, whose lease is over, before that one goes on.
+/// Lets a worker lease the task of another, whose lease is over, and do it.
+fn take_over<R: Threads + Sync + Abort>(
+    rt: &R,
+    alloc: Global,
+    store: &mut MemStore<Pipeline>,
+) -> Result<(), Failed> {
+    let mut worker = leased(rt, alloc, store, 1600, LEASED_AGAIN)?;
+    expect_rest(rt, &mut worker, store, "done 0000 000000\nfinished 1\n")
+}
+
+/// Lets another worker take a task over, before the one that leased it goes on.
 fn run_both<R: Threads + Sync + Abort>(
     rt: &R,
     alloc: Global,
     store: &mut MemStore<Pipeline>,
 ) -> Result<(), Failed> {
-    let mut first = Runner::new(alloc, 1000, 5, 100)?;
-    lease(rt, alloc, &mut first, store, LEASED)?;
-    let mut second = Runner::new(alloc, 1600, 5, 100)?;
-    lease(rt, alloc, &mut second, store, LEASED_AGAIN)?;
-    expect_rest(rt, &mut second, store, "done 0000 000000\nfinished 1\n")?;
-    expect_rest(rt, &mut first, store, "late 0000 000000\nfinished 1\n")
+    let mut worker = leased(rt, alloc, store, 1000, LEASED)?;
+    take_over(rt, alloc, store)?;
+    expect_rest(rt, &mut worker, store, "late 0000 000000\nfinished 1\n")
 }
 
 #[test]
@@ -236,22 +244,31 @@ fn turns_are_spent(rt: HostRuntime) -> Result<(), Failed> {
     Ok(())
 }
 
-/// What a worker with one try gives, and the store, once the lease of another is over.
+/// Lets a worker lease a task at 1000 and stop.
+fn stop_after_lease<R: Threads + Sync + Abort>(
+    rt: &R,
+    alloc: Global,
+    store: &mut MemStore<Pipeline>,
+) -> Result<(), Failed> {
+    leased(rt, alloc, store, 1000, LEASED)?;
+    Ok(())
+}
+
+/// What a worker with one try gives at 1600.
 fn tried_once<R: Threads + Sync>(
     rt: &R,
     alloc: Global,
     store: &mut MemStore<Pipeline>,
 ) -> Result<String, Failed> {
-    let mut first = Runner::new(alloc, 1000, 5, 100)?;
-    first.steps(rt, store, TILL_READ)?;
-    let mut second = Runner::new(alloc, 1600, 1, 100)?;
-    second.steps(rt, store, ALL)
+    let mut worker = Runner::new(alloc, 1600, 1, 100)?;
+    worker.steps(rt, store, ALL)
 }
 
 #[test]
 fn a_task_that_was_leased_too_often_is_buried(rt: HostRuntime) -> Result<(), Failed> {
     let alloc = rt.alloc();
     let mut store = store(alloc, one_voxel(alloc)?, Fails::new(alloc))?;
+    stop_after_lease(&rt, alloc, &mut store)?;
     let given = tried_once(&rt, alloc, &mut store)?;
     expect(
         &rt,
