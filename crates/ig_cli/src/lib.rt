@@ -9,8 +9,6 @@ mod done;
 #[cfg(test)]
 mod encodings_tests;
 #[cfg(test)]
-mod execute_tests;
-#[cfg(test)]
 mod layers_tests;
 mod lines;
 mod options;
