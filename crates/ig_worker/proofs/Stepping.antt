@@ -21,7 +21,7 @@ use Rattle.ig_worker.specs.Steps.{Called, Rests, Stepped, calls, rests, stops, S
 called_of : (allows : Bool → Files → Act → Type 0) (from to : ℕ) (before : Notes) (phase : Phase) (old new : Log) (m : Move)
     → Made allows old new (Leads from to before phase) m → Called allows from to (stands before phase) old new m
 called_of allows from to before phase old new m made =
-    record { act = made.answered.act; acted = made.answered.acted; takes = made.answered.takes; leads = made.leads }
+    record { act = made.answered.act; acted = made.answered.acted; grown = made.answered.grown; takes = made.answered.takes; leads = made.leads }
 
 -- before the call, or after it
 called_or_idled : (allows : Bool → Files → Act → Type 0) (from to : ℕ) (before : Notes) (phase : Phase) (old new : Log)

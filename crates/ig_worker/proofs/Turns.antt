@@ -51,6 +51,7 @@ module _ (allows : Bool → Files → Act → Type 0) (old new : Log) (P : Files
       went = went_then allows old (between old t.others) new [] _ went_others (went_own a one);
       files = t.files ∙ ap (λ acts. replay (replay (files_of old) t.others) (own_all acts)) one;
     };
+    grown = t.grown ∙ ap (λ acts. old.steps ++ (t.others ++ own_all acts)) one;
     takes = takes;
   }
 

@@ -1,12 +1,9 @@
--- How a worker ends, and what that means of the files of its queue.
-use Rattle.std.specs.Prelude.{◌≡◌, ◌≤◌, ◌<◌, ◌^◌, ◌+◌, ◌==◌, ℕ, zero, suc, Bool, true, false, if◌then◌else◌, List, [], ◌∷◌, length, map, None, Some, Contains, codes, refl}
+-- What the end of a worker means is so, where its course began in a legal log.
+use Rattle.std.specs.Prelude.{◌≡◌, ◌≤◌, ◌<◌, ◌^◌, ◌+◌, ◌==◌, ℕ, zero, suc, Bool, true, false, if◌then◌else◌, List, [], ◌∷◌, length, None, Some, refl}
 use Rattle.std.proofs.Common.{arith, ap, sym, subst, true≢false, ◌∙◌}
 use Rattle.std.proofs.lemmas.Option.{none-some, same_Some}
-use Rattle.ig_space.specs.Path.{joined}
 use Rattle.ig_space.specs.declared.task_id.TaskId.{TaskId}
 use Rattle.ig_defs.specs.Log.{Log, files_of}
-use Rattle.ig_defs.specs.Names.{StandsOnce, StandsThroughout}
-use Rattle.ig_defs.specs.QueueNames.{task_file, task_fits}
 use Rattle.ig_rule.specs.Facts.{Facts}
 use Rattle.ig_rule.specs.QueueFiles.{queue_of}
 use Rattle.ig_rule.specs.declared.role.Role.{Role}
@@ -19,32 +16,25 @@ use Rattle.ig_worker.specs.declared.phase.Phase.TheVariants.{Starting, Learning,
 use Rattle.ig_worker.specs.declared.plan.Plan.{Plan}
 use Rattle.ig_worker.specs.declared.turn.End.{End}
 use Rattle.ig_worker.specs.declared.turn.End.TheVariants as end
-use Rattle.ig_worker.specs.declared.turn.Line.TheVariants as line
-use Rattle.ig_worker.specs.Course.{Course, end_at, fresh, said_of}
+use Rattle.ig_worker.specs.AtEnd.{AreDone, Ended, Tells, Waits}
+use Rattle.ig_worker.specs.Course.{Course, end_at, fresh}
 use Rattle.ig_worker.specs.EndsClosing.{ending_of}
-use Rattle.ig_worker.specs.EndsCourse.{LastListing, LastRound, course_later, last_listing, last_round}
-use Rattle.ig_worker.specs.EndsDone.{AreDone, are_done}
-use Rattle.ig_worker.specs.EndsEnding.{Ending, is_final}
+use Rattle.ig_worker.specs.EndsCourse.{course_later, last_listing, last_round}
+use Rattle.ig_worker.specs.EndsDone.{are_done}
+use Rattle.ig_worker.specs.EndsEnding.{is_final}
 use Rattle.ig_worker.specs.EndsFinished.{all_done}
-use Rattle.ig_worker.specs.EndsPlaces.{AllowsFor, course_keeps}
-use Rattle.ig_worker.specs.EndsRound.{NoneOpen, round_ends}
-use Rattle.ig_worker.specs.EndsSaid.{TellsNone, course_none, is_late}
-use Rattle.ig_worker.specs.EndsSorts.{is_ending, is_round}
-use Rattle.ig_worker.specs.EndsWaiting.{AreNotDone, are_not_done, dead_stood, no_dead_stood}
+use Rattle.ig_worker.specs.EndsPlaces.{course_keeps}
+use Rattle.ig_worker.specs.EndsRound.{round_ends}
+use Rattle.ig_worker.specs.EndsSaid.{course_none, is_late}
+use Rattle.ig_worker.specs.EndsWaiting.{are_not_done, dead_stood, no_dead_stood}
+use Rattle.ig_worker.specs.LastTimes.{LastListing, is_ending, is_round}
 use Rattle.ig_worker.specs.Moves.{Move}
 use Rattle.ig_worker.specs.Places.{State, counted, end_by}
 use Rattle.ig_worker.specs.Plans.{HasLimits}
 use Rattle.ig_worker.specs.Stages.{Known, all_tasks, all_unlisted, tasks_listed}
+use Rattle.ig_worker.specs.Standing.{AllowsFor}
 
 -- ---- the course to an end
--- A fresh worker listed the queue for the last time, and none of its tasks could be leased; then it listed the stages for the
--- last time, and the dead letters, and the done tasks. It told no dead letter before that.
-pub record Ended (role : Role) (plan : Plan) (from : ℕ) (old : Log) (ms : List Move) (to : ℕ) (next : State) (new : Log) : Type 0 where
-  pub listing : LastListing (AllowsFor role plan) from (fresh plan) old ms to next new
-  pub round : LastRound (AllowsFor role plan) from (fresh plan) old listing.first listing.between listing.place listing.mid
-  pub none_open : NoneOpen role plan round.between round.mid listing.mid
-  pub ending : Ending role plan listing.mid (listing.move ∷ listing.rest) next new
-  pub told_none : TellsNone (said_of listing.first)
 
 final_ends : (phase : Phase) → is_final phase ≡ true → is_ending phase ≡ true
 final_ends (Over end) e = refl
@@ -127,20 +117,6 @@ letters_count [] left total count is = absurd is
 letters_count (id ∷ letters) left total count is = let same : count ≡ length letters + 1 = cc in (omega (arith, same), omega (arith, same))
 
 -- ---- what an end means
--- So many different tasks of recorded stages were not done when the done tasks were listed, and no dead letter stood throughout
--- the listing of dead letters.
-pub record Waits (role : Role) (plan : Plan) (mid : Log) (ms : List Move) (next : State) (new : Log) (e : Ending role plan mid ms next new) (n : ℕ) : Type 0 where
-  pub some : 1 ≤ n
-  pub tasks : AreNotDone plan e.dones n
-  pub no_dead : (id : TaskId) → task_fits id ≡ true → StandsThroughout (files_of e.deads) e.lists_dead.acted.others (joined plan.queue (codes "dead")) (task_file id) → ⊥
-
--- It tells so many dead letters, each of which stood at a moment of that listing.
-pub record Tells (role : Role) (plan : Plan) (mid : Log) (ms : List Move) (next : State) (new : Log) (e : Ending role plan mid ms next new) (count : ℕ) : Type 0 where
-  pub some : 1 ≤ count
-  pub letters : List TaskId
-  pub long : length letters ≡ count
-  pub said : said_of ms ≡ map line.Letter letters
-  pub stood : (id : TaskId) → Contains letters id → StandsOnce (files_of e.deads) e.lists_dead.acted.others (joined plan.queue (codes "dead")) (task_file id)
 
 module _ (role : Role) (plan : Plan) (from : ℕ) (old : Log) (ms : List Move) (to : ℕ) (next : State) (new : Log) (limits : HasLimits plan) (small : to < 10 ^ 10) (legal : Legal stage_reader plan.queue old)
     (c : Course (AllowsFor role plan) from (fresh plan) old ms to next new) where

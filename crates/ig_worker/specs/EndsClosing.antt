@@ -22,16 +22,17 @@ use Rattle.ig_worker.specs.declared.notes.Notes.{Notes}
 use Rattle.ig_worker.specs.declared.phase.Phase.TheVariants.{Closing, Broken}
 use Rattle.ig_worker.specs.declared.phase.Then.TheVariants.{Count}
 use Rattle.ig_worker.specs.declared.plan.Plan.{Plan}
-use Rattle.ig_worker.specs.EndsEnding.{Ending, Goes, IsLearnt, IsRecorded, IsStuck, after_deads, is_final, listed_by, next_stays, not_there, one_more, step_lasts, stuck_ends}
-use Rattle.ig_worker.specs.EndsLasts.{Lasts, lasts_then, record_throughout}
-use Rattle.ig_worker.specs.EndsPlaces.{AllowsFor, Stays}
-use Rattle.ig_worker.specs.EndsStages.{IsKnown, knows_new, knows_old}
+use Rattle.ig_worker.specs.AtEnd.{Ending}
+use Rattle.ig_worker.specs.EndsEnding.{Goes, IsLearnt, IsStuck, after_deads, is_final, listed_by, next_stays, not_there, one_more, step_lasts, stuck_ends}
+use Rattle.ig_worker.specs.EndsLasts.{lasts_then, record_throughout}
+use Rattle.ig_worker.specs.EndsStages.{knows_new, knows_old}
 use Rattle.ig_worker.specs.KeepsListing.{listed_or_known, stage_named-is}
 use Rattle.ig_worker.specs.KeepsLists.{in_cases, none_in}
 use Rattle.ig_worker.specs.Moves.{Move}
 use Rattle.ig_worker.specs.Places.{State, learning, learnt, learnt_by, noted, stands}
 use Rattle.ig_worker.specs.Plans.{HasLimits}
 use Rattle.ig_worker.specs.Stages.{Known, unknown_listed, with_stage}
+use Rattle.ig_worker.specs.Standing.{AllowsFor, IsKnown, IsRecorded, Lasts, Stays}
 
 -- ---- once a record is read
 pub learnt_more : (k n : ℕ) (s : Stage) (known : Known) (unread : List ℕ) → IsLearnt known (n ∷ unread) k → IsLearnt (with_stage n s known) unread k

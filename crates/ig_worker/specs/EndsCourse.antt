@@ -1,5 +1,5 @@
--- The last listing of the stages in a worker's course, and the last listing of the queue.
-use Rattle.std.specs.Prelude.{◌≡◌, ◌⊎◌, ◌≤◌, ℕ, Bool, true, false, List, [], ◌∷◌, ◌++◌, refl}
+-- A worker that has come to its end has listed the stages for the last time, and the queue before.
+use Rattle.std.specs.Prelude.{◌≡◌, ◌⊎◌, ◌≤◌, ℕ, Bool, true, false, List, [], ◌∷◌, refl}
 use Rattle.std.proofs.Common.{arith, inl, inr, ap, sym, ◌∙◌}
 use Rattle.ig_defs.specs.declared.step.Act.{Act}
 use Rattle.ig_defs.specs.Files.{Files}
@@ -8,7 +8,8 @@ use Rattle.ig_worker.specs.declared.notes.Notes.{Notes}
 use Rattle.ig_worker.specs.declared.phase.Phase.{Phase}
 use Rattle.ig_worker.specs.declared.phase.Phase.TheVariants.{Asking, Closing}
 use Rattle.ig_worker.specs.Course.{Course}
-use Rattle.ig_worker.specs.EndsSorts.{is_ending, is_round, leads_ending, leads_round, not_both}
+use Rattle.ig_worker.specs.EndsSorts.{leads_ending, leads_round, not_both}
+use Rattle.ig_worker.specs.LastTimes.{AreAll, LastAt, LastListing, LastRound, is_ending, is_round}
 use Rattle.ig_worker.specs.Moves.{Leads, Move}
 use Rattle.ig_worker.specs.Places.{State}
 
@@ -20,37 +21,9 @@ course_later allows from s old (m ∷ ms) to next new c =
     let first = c.2 in
     omega (arith, later, first)
 
--- each place of a course is of this sort
-abbrev pub AreAll : (Phase → Bool) → State → List Move → Type 0
-AreAll P s [] = P s.phase ≡ true
-AreAll P s (m ∷ ms) = (P s.phase ≡ true) × AreAll P m.next ms
-
 pub all_first : (P : Phase → Bool) (s : State) (ms : List Move) → AreAll P s ms → P s.phase ≡ true
 all_first P s [] all = all
 all_first P s (m ∷ ms) all = all.0
-
--- The last time that the worker stood at the gate, after which it stood only at places of this sort: a course led there, and on
--- to the end.
-pub record LastAt (P : Phase → Bool) (gate : Phase) (allows : Bool → Files → Act → Type 0) (from : ℕ) (s : State) (old : Log) (ms : List Move) (to : ℕ) (next : State) (new : Log) : Type 0 where
-  pub first : List Move
-  pub move : Move
-  pub rest : List Move
-  pub together : ms ≡ first ++ move ∷ rest
-  pub between : ℕ
-  pub place : State
-  pub mid : Log
-  pub before : Course allows from s old first between place mid
-  pub there : place.phase ≡ gate
-  pub later : Course allows between place mid (move ∷ rest) to next new
-  pub since : AreAll P move.next rest
-
--- The last listing of the stages: `mid` is the log as it was when it began.
-abbrev pub LastListing : (Bool → Files → Act → Type 0) → ℕ → State → Log → List Move → ℕ → State → Log → Type 0
-LastListing = LastAt is_ending Closing
-
--- The last listing of the queue: `mid` is the log as it was when it began.
-abbrev pub LastRound : (Bool → Files → Act → Type 0) → ℕ → State → Log → List Move → ℕ → State → Log → Type 0
-LastRound = LastAt is_round Asking
 
 -- a sort of places to which only the gate leads
 abbrev IsBehind : (Phase → Bool) → Phase → Type 0

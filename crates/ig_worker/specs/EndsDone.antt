@@ -1,41 +1,25 @@
 -- The tasks that are done where a worker has finished: as many as it says, and all of them different.
-use Rattle.std.specs.Prelude.{◌≡◌, ◌⊎◌, ◌<◌, ℕ, zero, suc, List, [], ◌∷◌, length, Some, Contains, IsSome, refl}
+use Rattle.std.specs.Prelude.{◌≡◌, ◌⊎◌, ℕ, zero, suc, List, [], ◌∷◌, Some, Contains, refl}
 use Rattle.std.proofs.Common.{arith, inl, inr, sym, subst, ◌∙◌}
 use Rattle.ig_space.specs.declared.task_id.TaskId.{TaskId}
 use Rattle.ig_defs.specs.Log.{Log, files_of}
 use Rattle.ig_defs.specs.QueueNames.{task_file}
 use Rattle.ig_record.specs.declared.stage.Stage.{Stage}
 use Rattle.ig_record.specs.Stage.{task_count}
-use Rattle.ig_rule.specs.Facts.{Facts}
-use Rattle.ig_rule.specs.QueueFiles.{Done, queue_of}
 use Rattle.ig_rule.specs.declared.role.Role.{Role}
 use Rattle.ig_rule.specs.Stages.{stages_in}
 use Rattle.ig_task.specs.Facts.{facts_of, stage_reader}
 use Rattle.ig_worker.specs.declared.plan.Plan.{Plan}
-use Rattle.ig_worker.specs.EndsEnding.{Ending, IsRecorded}
+use Rattle.ig_worker.specs.AtEnd.{AreDone, Ending, IsDone}
 use Rattle.ig_worker.specs.EndsFinished.{each_listed, given_then_done, listed_among}
 use Rattle.ig_worker.specs.EndsLasts.{lasts_went}
-use Rattle.ig_worker.specs.EndsLeft.{AreDifferent, all_left, different-all_left, left_is, length-all_left}
-use Rattle.ig_worker.specs.EndsPlaces.{AllowsFor}
+use Rattle.ig_worker.specs.EndsLeft.{all_left, different-all_left, left_is, length-all_left}
 use Rattle.ig_worker.specs.KeepsLists.{in_cases, map_in, none_in}
 use Rattle.ig_worker.specs.Knows.{kept_of}
 use Rattle.ig_worker.specs.Moves.{Move}
 use Rattle.ig_worker.specs.Places.{State}
 use Rattle.ig_worker.specs.Stages.{Known, all_tasks, all_unlisted, unlisted}
-
--- A task of a stage that is recorded in this log, which has its done name there.
-pub record IsDone (plan : Plan) (log : Log) (id : TaskId) : Type 0 where
-  pub stage : Facts
-  pub is : IsRecorded plan log id.stage stage
-  pub below : id.task < stage.tasks
-  pub done : IsSome (queue_of plan.queue (files_of log) (Done id))
-
--- So many different tasks are done.
-pub record AreDone (plan : Plan) (log : Log) (n : ℕ) : Type 0 where
-  pub tasks : List TaskId
-  pub count : length tasks ≡ n
-  pub different : AreDifferent tasks
-  pub each : (id : TaskId) → Contains tasks id → IsDone plan log id
+use Rattle.ig_worker.specs.Standing.{AllowsFor, IsRecorded}
 
 -- ---- all tasks are those that an empty listing doesn't show
 abbrev nothing : List (List ℕ)

@@ -1,5 +1,5 @@
 -- How a worker's course goes on once it has listed the stages for the last time.
-use Rattle.std.specs.Prelude.{◌≡◌, ◌⊎◌, ◌<◌, ◌^◌, ℕ, Bool, true, false, List, [], ◌∷◌, ◌++◌, map, Some, Contains, codes, refl}
+use Rattle.std.specs.Prelude.{◌≡◌, ◌⊎◌, ◌<◌, ◌^◌, ℕ, Bool, true, false, List, [], ◌∷◌, ◌++◌, map, Contains, codes, refl}
 use Rattle.std.proofs.Common.{arith, ap, sym, subst, true≢false, ◌∙◌, append-nil}
 use Rattle.ig_space.specs.Path.{joined}
 use Rattle.ig_space.specs.declared.task_id.TaskId.{TaskId}
@@ -10,24 +10,23 @@ use Rattle.ig_defs.specs.Files.{Files}
 use Rattle.ig_defs.specs.Log.{Log, files_of}
 use Rattle.ig_rule.specs.Facts.{Facts}
 use Rattle.ig_rule.specs.declared.role.Role.{Role}
-use Rattle.ig_rule.specs.Stages.{stages_in}
 use Rattle.ig_rule.specs.Went.{Acted, Listed}
-use Rattle.ig_task.specs.Facts.{stage_reader}
 use Rattle.ig_worker.specs.declared.notes.Notes.{Notes}
 use Rattle.ig_worker.specs.declared.phase.Phase.{Phase}
 use Rattle.ig_worker.specs.declared.phase.Phase.TheVariants.{ListingDead, ListingDone, Telling, Over}
 use Rattle.ig_worker.specs.declared.plan.Plan.{Plan}
 use Rattle.ig_worker.specs.declared.turn.Line.{Line}
 use Rattle.ig_worker.specs.declared.turn.Line.TheVariants as line
+use Rattle.ig_worker.specs.AtEnd.{Ending}
 use Rattle.ig_worker.specs.Calls.{Lists, Names, Takes}
 use Rattle.ig_worker.specs.Course.{Course, said_of}
 use Rattle.ig_worker.specs.EndsCourse.{course_later}
-use Rattle.ig_worker.specs.EndsLasts.{Lasts, lasts_went}
-use Rattle.ig_worker.specs.EndsPlaces.{AllowsFor, Stays, call_stays}
-use Rattle.ig_worker.specs.EndsStages.{IsKnown}
+use Rattle.ig_worker.specs.EndsLasts.{lasts_went}
+use Rattle.ig_worker.specs.EndsPlaces.{call_stays}
 use Rattle.ig_worker.specs.Moves.{Leads, Move, moves}
 use Rattle.ig_worker.specs.Places.{State, counted, stands}
 use Rattle.ig_worker.specs.Stages.{Known, tasks_listed}
+use Rattle.ig_worker.specs.Standing.{AllowsFor, IsKnown, IsRecorded, Lasts, Stays}
 use Rattle.ig_worker.specs.Steps.{Called}
 
 -- It has listed all that it looks for.
@@ -35,31 +34,6 @@ abbrev pub is_final : Phase → Bool
 is_final (Over end) = true
 is_final (Telling letters count) = true
 is_final phase = false
-
--- A stage with these facts is recorded in this log.
-abbrev pub IsRecorded : Plan → Log → ℕ → Facts → Type 0
-IsRecorded plan log n t = stages_in stage_reader plan.queue (files_of log) n ≡ Some t
-
--- Once the stages were listed for the last time, in the log `mid`, their records are read, so that each is known; then the dead
--- letters are listed, and then the done tasks. The dead letters are all that it says of these moves.
-pub record Ending (role : Role) (plan : Plan) (mid : Log) (ms : List Move) (next : State) (new : Log) : Type 0 where
-  pub notes : Notes
-  pub dead_from : ℕ
-  pub done_from : ℕ
-  pub end_from : ℕ
-  pub deads : Log
-  pub dones : Log
-  pub dead_names : List (List ℕ)
-  pub done_names : List (List ℕ)
-  pub before_deads : Stays plan dead_from (stands notes ListingDead) deads
-  pub before_dones : Stays plan done_from (stands notes (ListingDone (tasks_listed dead_names))) dones
-  pub lists_dead : Listed (AllowsFor role plan) deads dones (joined plan.queue (codes "dead")) dead_names
-  pub lists_done : Listed (AllowsFor role plan) dones new (joined plan.queue (codes "done")) done_names
-  pub ended : Stays plan end_from (stands notes (counted notes.known (tasks_listed dead_names) done_names)) new
-  pub lasts : Lasts plan.queue (files_of mid) (files_of deads)
-  pub all : (n : ℕ) (t : Facts) → IsRecorded plan mid n t → IsKnown notes.known n
-  pub is : next ≡ stands notes (counted notes.known (tasks_listed dead_names) done_names)
-  pub says : said_of ms ≡ map line.Letter (tasks_listed dead_names)
 
 -- with a move more, which says nothing
 pub one_more : (role : Role) (plan : Plan) (mid : Log) (m : Move) (ms : List Move) (next : State) (new : Log) → m.said ≡ [] → Ending role plan mid ms next new → Ending role plan mid (m ∷ ms) next new

@@ -22,15 +22,14 @@ use Rattle.ig_rule.specs.Stages.{Finished, stages_in, task_id}
 use Rattle.ig_task.specs.Facts.{facts_of, stage_reader}
 use Rattle.ig_task.specs.Kinds.{kinds}
 use Rattle.ig_worker.specs.declared.plan.Plan.{Plan}
-use Rattle.ig_worker.specs.EndsEnding.{Ending, IsRecorded}
-use Rattle.ig_worker.specs.EndsLasts.{Lasts, done_once, lasts_went}
-use Rattle.ig_worker.specs.EndsPlaces.{AllowsFor, Stays}
-use Rattle.ig_worker.specs.EndsStages.{IsKnown}
+use Rattle.ig_worker.specs.AtEnd.{Ending}
+use Rattle.ig_worker.specs.EndsLasts.{done_once, lasts_went}
 use Rattle.ig_worker.specs.KeepsListing.{known_facts}
 use Rattle.ig_worker.specs.KeepsLists.{first_in, later_in}
 use Rattle.ig_worker.specs.Moves.{Move}
 use Rattle.ig_worker.specs.Places.{State}
 use Rattle.ig_worker.specs.Stages.{Known, all_unlisted, is_listed, one_unless, stage_in, unlisted}
+use Rattle.ig_worker.specs.Standing.{AllowsFor, IsKnown, IsRecorded, Lasts, Stays}
 
 -- ---- none is unlisted
 last_or_before : (k n : ℕ) → k < suc n → (k < n) ⊎ (k ≡ n)

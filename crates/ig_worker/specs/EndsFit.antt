@@ -22,20 +22,14 @@ use Rattle.ig_worker.specs.declared.phase.Phase.{Phase}
 use Rattle.ig_worker.specs.declared.phase.Phase.TheVariants.{Starting, Learning, Asking, Trying, Fetching, Running, Finishing, Closing, ListingDead, ListingDone, Telling, Over, Broken}
 use Rattle.ig_worker.specs.declared.phase.Then.{Then}
 use Rattle.ig_worker.specs.declared.phase.Then.TheVariants.{Ask, Try, Count}
-use Rattle.ig_worker.specs.declared.plan.Plan.{Plan}
 use Rattle.ig_worker.specs.EndsStages.{IsFew, few_listed, few_named, stages_with}
-use Rattle.ig_worker.specs.Fit.{AreFitNotes, AreOpen, HasText, IsDue, IsFetching, IsFinishing, IsFit, IsFitPhase, IsFitThen, IsFound, IsLeased, IsOpen}
+use Rattle.ig_worker.specs.Fit.{AreFitNotes, AreOpen, HasText, IsDue, IsFetching, IsFinishing, IsFitPhase, IsFitThen, IsFound, IsLeased, IsOpen}
 use Rattle.ig_worker.specs.KeepsFiles.{next_path}
 use Rattle.ig_worker.specs.KeepsNames.{leased_fits}
 use Rattle.ig_worker.specs.Moves.{ActsOn, HandsOver, IsOutcome, Leads, ListsStages, Makes, Move, Outcome, ReadsInput, ReadsRecord, Refuses, TriesBy, leased}
 use Rattle.ig_worker.specs.Places.{State, asked, begun_by, counted, fetched, learning, learnt, learnt_by, leased_or_gone, next_try, noted, round_of, stands, tried_one}
 use Rattle.ig_worker.specs.Stages.{Known, may_run, open_names, open_tasks, stage_in, unknown_listed, unknown_named}
-
--- Of this plan, fit, and with a last answer of the clock that is no later than this.
-pub record Fits (plan : Plan) (now : ℕ) (s : State) : Type 0 where
-  pub of_plan : s.notes.plan ≡ plan
-  pub fit : IsFit s
-  pub later : s.notes.at ≤ now
+use Rattle.ig_worker.specs.Standing.{Fits}
 
 -- ---- names
 open_by : (notes : Notes) (name : QueueName) (rest : List QueueName) (may : Bool) → may_run notes.known name ≡ may → IsDue notes.at name → AreOpen notes rest → AreOpen notes (cond may (name ∷ rest) rest)

@@ -29,11 +29,7 @@ use Rattle.ig_rule.specs.WentOn.{files_went}
 use Rattle.ig_task.specs.Facts.{stage_reader}
 use Rattle.ig_task.specs.Kinds.{kinds}
 use Rattle.ig_worker.specs.KeepsListing.{record_stands}
-
--- Each stage that was recorded is so still, and each task that was done is.
-pub record Lasts (q : List ℕ) (old new : Files) : Type 0 where
-  pub stages : (n : ℕ) (t : Facts) → stages_in stage_reader q old n ≡ Some t → stages_in stage_reader q new n ≡ Some t
-  pub done : (id : TaskId) → IsSome (queue_of q old (Done id)) → IsSome (queue_of q new (Done id))
+use Rattle.ig_worker.specs.Standing.{Lasts}
 
 pub lasts_same : (q : List ℕ) (files : Files) → Lasts q files files
 lasts_same q files = record { stages = λ n t is. is; done = λ id there. there }

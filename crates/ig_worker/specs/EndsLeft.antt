@@ -6,14 +6,10 @@ use Rattle.ig_space.specs.declared.task_id.TaskId.{TaskId}
 use Rattle.ig_record.specs.declared.stage.Stage.{Stage}
 use Rattle.ig_record.specs.Stage.{task_count}
 use Rattle.ig_rule.specs.Stages.{task_id}
+use Rattle.ig_worker.specs.AtEnd.{AreDifferent}
 use Rattle.ig_worker.specs.EndsStages.{AreAbove, AreAscending, is_below}
 use Rattle.ig_worker.specs.KeepsLists.{first_in, in_cases, later_in, none_in}
 use Rattle.ig_worker.specs.Stages.{Known, all_unlisted, is_listed, one_unless, unlisted}
-
--- No task comes twice.
-abbrev pub AreDifferent : List TaskId → Type 0
-AreDifferent [] = Unit {0}
-AreDifferent (id ∷ ids) = ((other : TaskId) → Contains ids other → id ≢ other) × AreDifferent ids
 
 -- ---- the tasks that a listing doesn't show
 abbrev pub with_unlisted : Bool → TaskId → List TaskId → List TaskId

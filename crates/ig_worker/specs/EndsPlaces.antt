@@ -1,14 +1,12 @@
 -- What is so at each place of a worker's course: the log is legal, and what the worker knows is so.
-use Rattle.std.specs.Prelude.{◌≤◌, ◌<◌, ◌^◌, ℕ, Bool, List, [], ◌∷◌, Some, refl}
+use Rattle.std.specs.Prelude.{◌≤◌, ◌<◌, ◌^◌, ℕ, List, [], ◌∷◌, refl}
 use Rattle.std.specs.List.Sorted.{IsStrictlySortedBy}
 use Rattle.std.proofs.Common.{arith, sym, subst, true≢false}
 use Rattle.std.proofs.lemmas.List.Elements.{All-nil}
-use Rattle.ig_defs.specs.declared.step.Act.{Act}
 use Rattle.ig_defs.specs.Files.{Files}
 use Rattle.ig_defs.specs.Log.{Log, files_of, replay}
 use Rattle.ig_rule.specs.Beside.{others_keep_known}
 use Rattle.ig_rule.specs.Prefixes.{legal_sound}
-use Rattle.ig_rule.specs.Roles.{Allows}
 use Rattle.ig_rule.specs.declared.role.Role.{Role}
 use Rattle.ig_rule.specs.Sound.{Legal}
 use Rattle.ig_task.specs.Facts.{stage_reader}
@@ -19,7 +17,7 @@ use Rattle.ig_worker.specs.declared.phase.Phase.TheVariants.{Starting, Learning,
 use Rattle.ig_worker.specs.declared.plan.Plan.{Plan}
 use Rattle.ig_worker.specs.Course.{Course, fresh}
 use Rattle.ig_worker.specs.EndsCourse.{course_later}
-use Rattle.ig_worker.specs.EndsFit.{Fits, HasMade, leads_fit}
+use Rattle.ig_worker.specs.EndsFit.{HasMade, leads_fit}
 use Rattle.ig_worker.specs.Fit.{AreFitNotes, AreStages, IsFitPhase, IsStage}
 use Rattle.ig_worker.specs.Keeps.{move_keeps}
 use Rattle.ig_worker.specs.KeepsLists.{none_in}
@@ -28,18 +26,8 @@ use Rattle.ig_worker.specs.Knows.{Knows, memory_of}
 use Rattle.ig_worker.specs.Moves.{Move}
 use Rattle.ig_worker.specs.Places.{State, stands}
 use Rattle.ig_worker.specs.Plans.{HasLimits}
+use Rattle.ig_worker.specs.Standing.{AllowsFor, Stays}
 use Rattle.ig_worker.specs.Steps.{Called}
-
--- what a process of the role allows beside it, for the queue of this plan
-abbrev pub AllowsFor : Role → Plan → Bool → Files → Act → Type 0
-AllowsFor role plan = Allows stage_reader role (Some plan.queue)
-
--- A worker of this plan stands here, while the clock's last answer is `now`: what it keeps fits, the log is legal, and what it
--- knows is so.
-pub record Stays (plan : Plan) (now : ℕ) (s : State) (log : Log) : Type 0 where
-  pub place : Fits plan now s
-  pub legal : Legal stage_reader plan.queue log
-  pub known : Knows s (files_of log)
 
 -- ---- a fresh worker
 no_stages : AreStages []

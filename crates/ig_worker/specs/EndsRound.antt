@@ -1,11 +1,10 @@
 -- Where a worker has come to the close, the last listing of the queue showed no task that may be leased.
-use Rattle.std.specs.Prelude.{◌≡◌, ◌≤◌, ◌<◌, ℕ, true, false, List, [], ◌∷◌, map, Option, None, Some, Contains, codes, refl}
+use Rattle.std.specs.Prelude.{◌≡◌, ◌<◌, ℕ, false, List, [], ◌∷◌, map, Option, None, Some, Contains, codes, refl}
 use Rattle.std.proofs.Common.{arith, ap, sym, subst, ◌∙◌}
 use Rattle.ig_space.specs.Path.{joined}
 use Rattle.ig_defs.specs.declared.queue_name.QueueName.{QueueName}
 use Rattle.ig_defs.specs.Log.{Log, files_of}
-use Rattle.ig_defs.specs.Names.{StandsThroughout}
-use Rattle.ig_defs.specs.QueueNames.{queue_file, queue_fits}
+use Rattle.ig_defs.specs.QueueNames.{queue_file}
 use Rattle.ig_record.specs.declared.stage.Stage.{Stage}
 use Rattle.ig_record.specs.Reading.{record_in}
 use Rattle.ig_rule.specs.Facts.{Facts}
@@ -18,29 +17,20 @@ use Rattle.ig_worker.specs.declared.notes.Notes.{Notes}
 use Rattle.ig_worker.specs.declared.phase.Phase.TheVariants.{Asking, Closing, Learning}
 use Rattle.ig_worker.specs.declared.phase.Then.TheVariants.{Try}
 use Rattle.ig_worker.specs.declared.plan.Plan.{Plan}
+use Rattle.ig_worker.specs.AtEnd.{NoneOpen}
 use Rattle.ig_worker.specs.Course.{Course}
 use Rattle.ig_worker.specs.EndsClosing.{learnt_all_known, learnt_more}
-use Rattle.ig_worker.specs.EndsCourse.{AreAll, all_first}
-use Rattle.ig_worker.specs.EndsEnding.{IsLearnt, IsRecorded, listed_by}
+use Rattle.ig_worker.specs.EndsCourse.{all_first}
+use Rattle.ig_worker.specs.EndsEnding.{IsLearnt, listed_by}
 use Rattle.ig_worker.specs.EndsFinished.{noted_is}
 use Rattle.ig_worker.specs.EndsOpen.{closed_not_clear, named_or_known, none_open}
-use Rattle.ig_worker.specs.EndsPlaces.{AllowsFor, Stays}
-use Rattle.ig_worker.specs.EndsSorts.{count_no_round, is_round, not_both}
-use Rattle.ig_worker.specs.EndsStages.{IsKnown}
+use Rattle.ig_worker.specs.EndsSorts.{count_no_round, not_both}
 use Rattle.ig_worker.specs.Knows.{kept_of}
+use Rattle.ig_worker.specs.LastTimes.{AreAll, is_round}
 use Rattle.ig_worker.specs.Moves.{Leads, Move}
 use Rattle.ig_worker.specs.Places.{State, asked, learning, learnt, learnt_by, noted, round_of, stands}
 use Rattle.ig_worker.specs.Stages.{Known, open_names, unknown_listed, unknown_named}
-
--- The queue was listed from this log on, after the clock's last answer was `asked_from`. No name that stood throughout that
--- listing, and was due then, is of a task of a stage that is recorded and not under removal in the log `mid`.
-pub record NoneOpen (role : Role) (plan : Plan) (asked_from : ℕ) (queues mid : Log) : Type 0 where
-  pub listed : Log
-  pub names : List (List ℕ)
-  pub lists : Listed (AllowsFor role plan) queues listed (joined plan.queue (codes "queue")) names
-  pub none : (name : QueueName) (t : Facts) → queue_fits name ≡ true → name.visible ≤ asked_from
-      → StandsThroughout (files_of queues) lists.acted.others (joined plan.queue (codes "queue")) (queue_file name)
-      → IsRecorded plan mid name.stage t → name.task < t.tasks → Clear (stages_in stage_reader plan.queue (files_of mid)) name.stage t → ⊥
+use Rattle.ig_worker.specs.Standing.{AllowsFor, IsKnown, Stays}
 
 -- ---- from the listing to the close
 -- none of the names may be tried, and the stage of each is known

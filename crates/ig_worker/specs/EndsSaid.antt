@@ -15,21 +15,13 @@ use Rattle.ig_worker.specs.declared.phase.Phase.{Phase}
 use Rattle.ig_worker.specs.declared.phase.Phase.TheVariants.{Starting, Learning, Asking, Trying, Fetching, Running, Finishing, Closing, ListingDead, ListingDone, Telling, Over, Broken}
 use Rattle.ig_worker.specs.declared.phase.Then.TheVariants.{Ask, Try, Count}
 use Rattle.ig_worker.specs.declared.turn.Line.{Line}
-use Rattle.ig_worker.specs.declared.turn.Line.TheVariants as line
+use Rattle.ig_worker.specs.AtEnd.{TellsNone, is_letter}
 use Rattle.ig_worker.specs.Course.{Course, said_of}
-use Rattle.ig_worker.specs.EndsSorts.{is_ending, not_both}
+use Rattle.ig_worker.specs.EndsSorts.{not_both}
+use Rattle.ig_worker.specs.LastTimes.{is_ending}
 use Rattle.ig_worker.specs.Moves.{ActsOn, HandsOver, Leads, Makes, Move, Outcome, Refuses, TriesBy, by_presence, said_if, said_of_input}
 use Rattle.ig_worker.specs.Places.{State, counted, learning, learnt, learnt_by}
 use Rattle.ig_worker.specs.Stages.{Known}
-
-abbrev pub is_letter : Line → Bool
-is_letter (line.Letter id) = true
-is_letter l = false
-
--- None of these lines is of a dead letter.
-abbrev pub TellsNone : List Line → Type 0
-TellsNone [] = Unit {0}
-TellsNone (l ∷ lines) = (is_letter l ≡ false) × TellsNone lines
 
 none_then : (xs ys : List Line) → TellsNone xs → TellsNone ys → TellsNone (xs ++ ys)
 none_then [] ys a b = b

@@ -1,4 +1,4 @@
--- The places of a worker at a round without a task, and at the end, and how a course comes there.
+-- How a course comes to the places of a round without a task, and to those of the end.
 use Rattle.std.specs.Prelude.{◌≡◌, ◌⊎◌, ◌==◌, ℕ, Bool, true, false, if◌then◌else◌, List, [], ◌∷◌, ◌++◌, length, Option, None, Some, refl}
 use Rattle.std.proofs.Common.{inl, inr, ap, sym, true≢false, ◌∙◌}
 use Rattle.ig_space.specs.declared.task_id.TaskId.{TaskId}
@@ -14,49 +14,10 @@ use Rattle.ig_worker.specs.declared.phase.Phase.{Phase}
 use Rattle.ig_worker.specs.declared.phase.Phase.TheVariants.{Starting, Learning, Asking, Trying, Fetching, Running, Finishing, Closing, ListingDead, ListingDone, Telling, Over, Broken}
 use Rattle.ig_worker.specs.declared.phase.Then.{Then}
 use Rattle.ig_worker.specs.declared.phase.Then.TheVariants.{Ask, Try, Count}
+use Rattle.ig_worker.specs.LastTimes.{is_ending, is_round}
 use Rattle.ig_worker.specs.Moves.{ActsOn, HandsOver, Leads, Makes, Move, Outcome, Refuses, TriesBy, leased}
 use Rattle.ig_worker.specs.Places.{begun_by, fetched, counted, learning, learnt, learnt_by, leased_or_gone, next_try, round_of}
 use Rattle.ig_worker.specs.Stages.{Known, open_names, stage_in, unknown_listed, unknown_named, with_stage}
-
--- ---- places
-abbrev pub is_count : Then → Bool
-is_count Ask = false
-is_count (Try names) = false
-is_count Count = true
-
--- The worker has listed the stages once more, and leases no task again.
-abbrev pub is_ending : Phase → Bool
-is_ending Starting = false
-is_ending (Learning unread goal) = is_count goal
-is_ending Asking = false
-is_ending (Trying names) = false
-is_ending (Fetching name paths given names) = false
-is_ending (Running name given names) = false
-is_ending (Finishing name outputs names) = false
-is_ending Closing = false
-is_ending ListingDead = true
-is_ending (ListingDone letters) = true
-is_ending (Telling letters count) = true
-is_ending (Over end) = true
-is_ending (Broken error) = false
-
--- The queue was listed, and no task of it may be leased, as far as is known.
-abbrev pub is_round : Phase → Bool
-is_round Starting = false
-is_round (Learning unread Ask) = false
-is_round (Learning unread (Try names)) = true
-is_round (Learning unread Count) = false
-is_round Asking = false
-is_round (Trying names) = false
-is_round (Fetching name paths given names) = false
-is_round (Running name given names) = false
-is_round (Finishing name outputs names) = false
-is_round Closing = true
-is_round ListingDead = false
-is_round (ListingDone letters) = false
-is_round (Telling letters count) = false
-is_round (Over end) = false
-is_round (Broken error) = false
 
 -- ---- places of a sort to which tries and tasks don't belong
 pub record IsApart (P : Phase → Bool) : Type 0 where

@@ -18,6 +18,7 @@ use Rattle.ig_record.specs.declared.stage.Stage.{Stage}
 use Rattle.ig_task.specs.Lists.{first_of-from}
 use Rattle.ig_worker.specs.Fit.{AreStages, IsStage, number_of}
 use Rattle.ig_worker.specs.Stages.{Known, is_last, stage_in, unknown_after, unknown_listed, with_stage, with_unknown}
+use Rattle.ig_worker.specs.Standing.{IsKnown}
 
 -- ---- one more is noted
 each_by : (P : ℕ × Stage → Type 0) (n : ℕ) (s : Stage) (r : ℕ × Stage) (rest more : Known) (below same : Bool) → P (n, s) → All P (r ∷ rest) → All P more
@@ -87,8 +88,6 @@ pub stages_with : (n : ℕ) (s : Stage) (known : Known) → IsStage (n, s) → A
 stages_with n s known new all = record { each = each_with IsStage n s known new all.each; ascending = ascending_with n s known all.ascending }
 
 -- ---- which are known
-abbrev pub IsKnown : Known → ℕ → Type 0
-IsKnown known n = is_some (stage_in known n) ≡ true
 
 new_by : (n : ℕ) (s : Stage) (r : ℕ × Stage) (rest more : Known) (below same : Bool) → (r.0 == n) ≡ same → IsKnown more n
     → IsKnown (if below then (n, s) ∷ r ∷ rest else (if same then (n, s) ∷ rest else r ∷ more)) n

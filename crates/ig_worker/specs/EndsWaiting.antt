@@ -1,5 +1,5 @@
 -- What is so where a worker waits, and where it tells dead letters.
-use Rattle.std.specs.Prelude.{◌≡◌, ◌≤◌, ◌<◌, ℕ, true, List, [], ◌∷◌, length, Option, None, Some, Contains, IsSome, is_some, codes, refl}
+use Rattle.std.specs.Prelude.{◌≡◌, ◌≤◌, ℕ, true, List, [], ◌∷◌, length, Option, None, Some, Contains, IsSome, is_some, codes, refl}
 use Rattle.std.specs.FinMap as maps
 use Rattle.std.proofs.Common.{arith, ap, sym, subst, true≢false, ◌∙◌}
 use Rattle.ig_space.specs.Path.{is_path, joined}
@@ -11,7 +11,6 @@ use Rattle.ig_defs.specs.Names.{Stands, StandsOnce, StandsThroughout}
 use Rattle.ig_defs.specs.QueueNames.{task_file, task_fits}
 use Rattle.ig_defs.specs.QueueNameLaws.{is_segment-task_file, length-task_file}
 use Rattle.ig_queue.specs.FilesAt.{done_path_is}
-use Rattle.ig_rule.specs.Facts.{Facts}
 use Rattle.ig_rule.specs.Prefixes.{legal_sound}
 use Rattle.ig_rule.specs.QueueFiles.{Done, queue_of}
 use Rattle.ig_rule.specs.QueueSteps.{holds}
@@ -23,9 +22,9 @@ use Rattle.ig_rule.specs.Stages.{stages_in}
 use Rattle.ig_task.specs.Facts.{facts_of, stage_reader}
 use Rattle.ig_task.specs.Kinds.{kinds}
 use Rattle.ig_worker.specs.declared.plan.Plan.{Plan}
-use Rattle.ig_worker.specs.EndsEnding.{Ending, IsRecorded}
+use Rattle.ig_worker.specs.AtEnd.{AreNotDone, Ending, IsNotDone}
 use Rattle.ig_worker.specs.EndsLasts.{lasts_others}
-use Rattle.ig_worker.specs.EndsLeft.{AreDifferent, all_left, different-all_left, left_is, length-all_left}
+use Rattle.ig_worker.specs.EndsLeft.{all_left, different-all_left, left_is, length-all_left}
 use Rattle.ig_worker.specs.EndsNames.{among_listed, name_in, shown_from, shown_is}
 use Rattle.ig_worker.specs.KeepsLists.{map_in, none_in}
 use Rattle.ig_worker.specs.Knows.{kept_of}
@@ -34,23 +33,8 @@ use Rattle.ig_worker.specs.Places.{State}
 use Rattle.ig_worker.specs.Plans.{HasLimits}
 use Rattle.ig_worker.specs.Stages.{all_unlisted, tasks_listed}
 
--- ---- tasks that aren't done
--- A task of a stage that is recorded in this log, which has no done name there.
-pub record IsNotDone (plan : Plan) (log : Log) (id : TaskId) : Type 0 where
-  pub stage : Facts
-  pub is : IsRecorded plan log id.stage stage
-  pub below : id.task < stage.tasks
-  pub not_done : queue_of plan.queue (files_of log) (Done id) ≡ None
-
--- So many different tasks aren't done.
-pub record AreNotDone (plan : Plan) (log : Log) (n : ℕ) : Type 0 where
-  pub tasks : List TaskId
-  pub count : length tasks ≡ n
-  pub different : AreDifferent tasks
-  pub each : (id : TaskId) → Contains tasks id → IsNotDone plan log id
-
 -- the done name of a task that is done stands,
-done_stands : (q : List ℕ) → is_path q ≡ true → length q ≤ 100 → (files : Files) (id : TaskId) → IsSome (queue_of q files (Done id)) → Stands files (joined q (codes "done")) (task_file id)
+pub done_stands : (q : List ℕ) → is_path q ≡ true → length q ≤ 100 → (files : Files) (id : TaskId) → IsSome (queue_of q files (Done id)) → Stands files (joined q (codes "done")) (task_file id)
 done_stands q path short files id there =
     let h = holds q files (Done id) there in
     let long : length (codes "done") ≡ 4 = refl in

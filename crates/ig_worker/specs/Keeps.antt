@@ -2,11 +2,12 @@
 use Rattle.std.specs.Prelude.{◌≡◌, ℕ, [], ◌∷◌, Some, Result, refl}
 use Rattle.std.proofs.Common.{sym, subst}
 use Rattle.ig_defs.specs.Files.{Files}
-use Rattle.ig_defs.specs.Log.{Log, files_of}
+use Rattle.ig_defs.specs.Log.{Log, files_of, replay}
 use Rattle.ig_rule.specs.Beside.{others_keep}
 use Rattle.ig_rule.specs.Known.{IsKnownOf}
 use Rattle.ig_rule.specs.Prefixes.{legal_sound}
 use Rattle.ig_rule.specs.Roles.{Allows}
+use Rattle.ig_rule.specs.Rule.{Allowed}
 use Rattle.ig_rule.specs.declared.role.Role.{Role}
 use Rattle.ig_rule.specs.Sound.{Legal}
 use Rattle.ig_rule.specs.Stages.{stages_in}
@@ -22,7 +23,7 @@ use Rattle.ig_worker.specs.declared.plan.Plan.{Plan}
 use Rattle.ig_worker.specs.declared.turn.End.TheVariants as end
 use Rattle.ig_worker.specs.declared.turn.Turn.{Turn}
 use Rattle.ig_worker.specs.Fit.{IsFit}
-use Rattle.ig_worker.specs.KeepsKnown.{known_stopped, memory_at, rested}
+use Rattle.ig_worker.specs.KeepsKnown.{Carries, known_stopped, memory_at, rested}
 use Rattle.ig_worker.specs.KeepsMoves.{move_carries}
 use Rattle.ig_worker.specs.Knows.{Knows, memory_of}
 use Rattle.ig_worker.specs.Moves.{Move}
@@ -35,16 +36,27 @@ pub record Keeps (s next : State) (new : Log) : Type 0 where
   pub legal : Legal stage_reader s.notes.plan.queue new
   pub known : Knows next (files_of new)
 
--- In a legal log, whose files a worker knows, its move is allowed at its moment, and leads to a legal log whose files it knows.
-pub move_keeps : (role : Role) (from to : ℕ) (s : State) (old new : Log) (m : Move) → IsFit s → Called (Allows stage_reader role (Some s.notes.plan.queue)) from to s old new m
-    → Legal stage_reader s.notes.plan.queue old → Knows s (files_of old) → Keeps s m.next new
-move_keeps role from to s old new m fit called legal known =
+-- In a legal log, whose files a worker knows, its move is allowed at its moment, and carries what it knows on.
+move_carried : (role : Role) (from to : ℕ) (s : State) (old new : Log) (m : Move) → IsFit s → (called : Called (Allows stage_reader role (Some s.notes.plan.queue)) from to s old new m)
+    → Legal stage_reader s.notes.plan.queue old → Knows s (files_of old) → Carries s.notes.plan.queue (replay (files_of old) called.acted.others) called.act m.next
+move_carried role from to s old new m fit called legal known =
     let q = s.notes.plan.queue in
     let sound = legal_sound stage_reader kinds q old legal in
     let beside = others_keep stage_reader kinds role q (files_of old) called.acted.others (memory_of s) called.acted.by (record { sound = sound; known = known }) in
-    let carried = move_carries role from to s.notes (files_of old) called.acted.others called.acted.by sound beside.sound fit.notes called.act m s.phase fit.phase beside.known called.leads called.takes in
+    move_carries role from to s.notes (files_of old) called.acted.others called.acted.by sound beside.sound fit.notes called.act m s.phase fit.phase beside.known called.leads called.takes
+
+-- So its own act is allowed,
+pub move_allowed : (role : Role) (from to : ℕ) (s : State) (old new : Log) (m : Move) → IsFit s → (called : Called (Allows stage_reader role (Some s.notes.plan.queue)) from to s old new m)
+    → Legal stage_reader s.notes.plan.queue old → Knows s (files_of old) → Allowed stage_reader s.notes.plan.queue (replay (files_of old) called.acted.others) called.act
+move_allowed role from to s old new m fit called legal known = (move_carried role from to s old new m fit called legal known).may
+
+-- and it leads to a legal log whose files it knows.
+pub move_keeps : (role : Role) (from to : ℕ) (s : State) (old new : Log) (m : Move) → IsFit s → Called (Allows stage_reader role (Some s.notes.plan.queue)) from to s old new m
+    → Legal stage_reader s.notes.plan.queue old → Knows s (files_of old) → Keeps s m.next new
+move_keeps role from to s old new m fit called legal known =
+    let carried = move_carried role from to s old new m fit called legal known in
     record {
-      legal = acted_legal stage_reader role q old new called.act called.acted carried.may legal;
+      legal = acted_legal stage_reader role s.notes.plan.queue old new called.act called.acted carried.may legal;
       known = subst (λ files. Knows m.next files) (sym called.acted.files) carried.known;
     }
 

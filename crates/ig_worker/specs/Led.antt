@@ -1,10 +1,10 @@
 -- What one call on a store comes to, and where it leads.
-use Rattle.std.specs.Prelude.{◌≡◌, ◌⊎◌, Bool, Result, Ok, Err}
+use Rattle.std.specs.Prelude.{◌≡◌, ◌⊎◌, Bool, [], ◌∷◌, ◌++◌, Result, Ok, Err}
 use Rattle.ig_defs.specs.declared.error.StoreError.{StoreError}
 use Rattle.ig_defs.specs.declared.error.StoreError.TheVariants as store
 use Rattle.ig_defs.specs.declared.step.Act.{Act}
 use Rattle.ig_defs.specs.Files.{Files}
-use Rattle.ig_defs.specs.Log.{Log, files_of}
+use Rattle.ig_defs.specs.Log.{Log, files_of, own}
 use Rattle.ig_rule.specs.Went.{Acted, Idled}
 use Rattle.ig_worker.specs.declared.error.WorkerError.{WorkerError}
 use Rattle.ig_worker.specs.declared.error.WorkerError.TheVariants.{Failed, Memory}
@@ -17,10 +17,11 @@ use Rattle.ig_worker.specs.Places.{stands}
 use Rattle.ig_worker.specs.Steps.{answer_of}
 
 -- ---- calls
--- the own act of the call, which found this
+-- the own act of the call, after steps of others, which found this
 pub record IsAnswered (allows : Bool → Files → Act → Type 0) (old new : Log) (call : Call) (answer : Answer) : Type 0 where
   pub act : Act
   pub acted : Acted allows old new act
+  pub grown : new.steps ≡ old.steps ++ (acted.others ++ (own act ∷ []))
   pub takes : Takes (files_of old) acted.others call answer act
 
 -- by the result: a call that failed may have been made

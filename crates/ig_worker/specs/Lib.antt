@@ -15,6 +15,9 @@ pub mod Course
 pub mod Words
 pub mod Lines
 pub mod Counting
+pub mod LastTimes
+pub mod Standing
+pub mod AtEnd
 -- what its moves keep
 pub mod KeepsLists
 pub mod KeepsFiles
@@ -48,4 +51,22 @@ pub mod EndsOpen
 pub mod EndsRound
 pub mod EndsDone
 pub mod EndsSaid
+pub mod EndsListed
+pub mod EndsRecords
 pub mod Ends
+-- a worker by itself
+pub mod CanFinish
+pub mod AloneGoing
+pub mod AloneCalls
+pub mod AloneNames
+pub mod AloneListings
+pub mod AloneOrder
+pub mod AloneRounds
+pub mod AloneDone
+pub mod AloneKept
+pub mod AloneLeft
+pub mod AloneFiles
+pub mod AloneRuns
+pub mod AloneTries
+pub mod AloneTasks
+pub mod Alone

@@ -1,8 +1,8 @@
 -- What a step of a worker does.
-use Rattle.std.specs.Prelude.{◌≡◌, ◌⊎◌, ℕ, Bool, true, false, List, [], ◌∷◌, Result, Ok, Err}
+use Rattle.std.specs.Prelude.{◌≡◌, ◌⊎◌, ℕ, Bool, true, false, List, [], ◌∷◌, ◌++◌, Result, Ok, Err}
 use Rattle.ig_defs.specs.declared.step.Act.{Act}
 use Rattle.ig_defs.specs.Files.{Files}
-use Rattle.ig_defs.specs.Log.{Log, files_of}
+use Rattle.ig_defs.specs.Log.{Log, files_of, own}
 use Rattle.ig_rule.specs.Went.{Acted, Idled}
 use Rattle.ig_worker.specs.declared.error.WorkerError.{WorkerError}
 use Rattle.ig_worker.specs.declared.error.WorkerError.TheVariants.{Failed, Memory}
@@ -22,6 +22,7 @@ use Rattle.ig_worker.specs.Places.{State, stands}
 pub record Called (allows : Bool → Files → Act → Type 0) (from to : ℕ) (s : State) (old new : Log) (m : Move) : Type 0 where
   pub act : Act
   pub acted : Acted allows old new act
+  pub grown : new.steps ≡ old.steps ++ (acted.others ++ (own act ∷ []))
   pub takes : Takes (files_of old) acted.others m.call m.answer act
   pub leads : Leads from to s.notes s.phase m
 
