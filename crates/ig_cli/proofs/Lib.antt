@@ -25,4 +25,6 @@ pub mod WorkerSaid
 pub mod WorkerTurns
 pub mod WorkerLegal
 pub mod WorkerLoops
+pub mod WorkerMeans
+pub mod WorkerFinishes
 pub mod TopCall

@@ -14,13 +14,17 @@ use Rattle.ig_record.specs.declared.stage.Stage.{Stage}
 use Rattle.ig_rule.specs.Sound.{Legal}
 use Rattle.ig_rule.specs.Went.{Idled}
 use Rattle.ig_task.specs.Facts.{stage_reader}
+use Rattle.ig_task.specs.Pipeline.{is_allowed}
+use Rattle.ig_task.specs.declared.pipeline.Pipeline.{Pipeline}
 use Rattle.ig_worker.specs.declared.plan.Plan.{Plan}
 use Rattle.ig_worker.specs.Course.{fresh}
+use Rattle.ig_worker.specs.Plans.{HasLimits}
 use Rattle.ig_worker.specs.Words.{plan_of_words}
-use Rattle.ig_cli.specs.Rules.{queue_in_use, rule_for, rule_with}
-use Rattle.ig_cli.specs.Worked.{HasWorked}
+use Rattle.ig_cli.specs.Rules.{queue_in_use, rule_for, rule_of_words, rule_with, worker_rule}
+use Rattle.ig_cli.specs.Worked.{EndsSo, HasSaid, HasWorked}
 use Rattle.ig_cli.proofs.PlanWords.{no_plan}
 use Rattle.ig_cli.proofs.WorkerHalts.{idled_nothing}
+use Rattle.ig_cli.proofs.WorkerMeans.{ends_so}
 
 -- ---- statuses
 -- what is among a shorter list is among a longer one
@@ -77,6 +81,13 @@ queue_given words o none in_use = sym (ap (λ p. (rule_for p (queue_of_words wor
 pub stays_legal : {S : Type 0} (log : S → Log) (old new : S) (q : List ℕ) → new ≡ old → Legal stage_reader q (log old) → Legal stage_reader q (log new)
 stays_legal log old new q same legal = subst (λ s. Legal stage_reader q (log s)) (sym same) legal
 
+unread_said : (plan : Plan) (status : ℕ) (out_before out_now : List ℕ) → status ≡ 7 → (¬ (status ≡ 0) → ¬ (status ≡ 9) → out_now ≡ out_before) → HasSaid [] (fresh plan) status out_before out_now
+unread_said plan status out_before out_now seven out = record {
+  all = λ six other nine. absurd (other seven);
+  failed = λ six. absurd (omega (arith, seven, six));
+  part = (0, out (λ zero. omega (arith, seven, zero)) (λ nine. omega (arith, seven, nine)) ∙ sym (append-nil out_before));
+}
+
 pub unread_worked : (allows : Bool → Files → Act → Type 0) (plan : Plan) (at : ℕ) (old new : Log) (status : ℕ) (out_tells : Type 0) (out_before out_now : List ℕ)
     (err_tells : Type 0) (faults_before faults_now : ℕ) (err_before err_now : List ℕ) → new ≡ old → status ≡ 7
     → (out_tells → ¬ (status ≡ 0) → ¬ (status ≡ 9) → out_now ≡ out_before) → (err_tells → ¬ Rose faults_before faults_now → status ≡ 7 → err_now ≡ err_before ++ fault_line memory_text)
@@ -85,11 +96,7 @@ unread_worked allows plan at old new status out_tells out_before out_now err_tel
   ms = [];
   place = fresh plan;
   worked = record { last = old; course = (omega arith, refl, refl); rest = subst (Idled allows old) (sym same) (idled_nothing allows old); ended = inr (inr (inl seven)) };
-  said = λ t. record {
-    all = λ six other nine. absurd (other seven);
-    failed = λ six. absurd (omega (arith, seven, six));
-    part = (0, out t (λ zero. omega (arith, seven, zero)) (λ nine. omega (arith, seven, nine)) ∙ sym (append-nil out_before));
-  };
+  said = λ t. unread_said plan status out_before out_now seven (out t);
   warned = λ t quiet. record {
     refused = λ five. absurd (omega (arith, seven, five));
     failed = λ six. absurd (omega (arith, seven, six));
@@ -97,3 +104,29 @@ unread_worked allows plan at old new status out_tells out_before out_now err_tel
     none = λ five six other. absurd (other seven);
   };
 }
+
+pub unread_ends : (plan : Plan) (at : ℕ) (old new : Log) (status : ℕ) (out_tells : Type 0) (out_before out_now : List ℕ) → new ≡ old → status ≡ 7
+    → (out_tells → ¬ (status ≡ 0) → ¬ (status ≡ 9) → out_now ≡ out_before) → EndsSo plan at at old new status out_tells out_before out_now
+unread_ends plan at old new status out_tells out_before out_now same seven out = record {
+  ms = [];
+  place = fresh plan;
+  last = old;
+  course = (omega arith, refl, refl);
+  rest = subst (Idled (is_allowed (worker_rule plan.queue)) old) (sym same) (idled_nothing (is_allowed (worker_rule plan.queue)) old);
+  said = λ t. unread_said plan status out_before out_now seven (out t);
+  no_fault = λ five. absurd (omega (arith, seven, five));
+  finished = λ zero. absurd (omega (arith, seven, zero));
+  waiting = λ three. absurd (omega (arith, seven, three));
+  letters = λ four. absurd (omega (arith, seven, four));
+}
+
+-- ---- how a worker ends
+pub worker_ends : (words : List (List ℕ)) (rule : Pipeline) (plan asked : Plan) (from to : ℕ) (old new : Log) (status : ℕ) (out_tells : Type 0) (out_before out_now : List ℕ)
+    (err_tells : Type 0) (faults_before faults_now : ℕ) (err_before err_now : List ℕ) → Some plan ≡ plan_of_words words → rule ≡ rule_of_words words → HasLimits plan → to < 10 ^ 10
+    → HasWorked (is_allowed rule) plan from to old new status out_tells out_before out_now err_tells faults_before faults_now err_before err_now
+    → plan_of_words words ≡ Some asked → Legal stage_reader asked.queue old → EndsSo asked from to old new status out_tells out_before out_now
+worker_ends words rule plan asked from to old new status out_tells out_before out_now err_tells a b err_before err_now some is limits small worked asks =
+    let by_plan : rule ≡ worker_rule plan.queue = is ∙ ap (λ o. rule_for o (queue_of_words words)) (sym some) in
+    let h = subst (λ r. HasWorked (is_allowed r) plan from to old new status out_tells out_before out_now err_tells a b err_before err_now) by_plan worked in
+    subst (λ p. Legal stage_reader p.queue old → EndsSo p from to old new status out_tells out_before out_now) (same_Some plan asked (some ∙ asks))
+    (ends_so plan from to old new status out_tells out_before out_now err_tells a b err_before err_now h limits small)

@@ -26,10 +26,11 @@ ghost use Rattle.ig_stage.specs.Open.{maker_rule};
 ghost use Rattle.ig_stage.specs.Requests.{shown_request, HasLimits};
 ghost use Rattle.ig_task.specs.Facts.{stage_reader};
 ghost use Rattle.ig_task.specs.Pipeline.{is_allowed};
+ghost use Rattle.ig_worker.specs.CanFinish.{CanFinish};
 ghost use Rattle.ig_worker.specs.Words.{plan_of_words};
 ghost use Rattle.ig_worker.specs.declared.plan.Plan.{Plan};
 ghost use Rattle.ig_cli.specs.Rules.{queue_in_use, rule_of_words};
-ghost use Rattle.ig_cli.specs.Worked.{HasWorked};
+ghost use Rattle.ig_cli.specs.Worked.{EndsSo, HasWorked};
 ghost use Rattle.ig_cli.specs.Words.{texts_of, CanHold};
 ghost use Rattle.ig_cli.specs.Report.{ended_of, Ends, NotWords};
 ghost use Rattle.ig_cli.specs.Printed.{HasComplained, HasPrinted, HasPrintedPart};
@@ -241,6 +242,7 @@ pub fn igneous<R: Threads + Sync, S: Store<Pipeline>, C: Clock, O: Sink, E: Sink
     ensures out_failed { result ≡ 9 → Rose (O.faults out.old) (O.faults out.new) }
     ensures complete { S.tells → IsReady (texts_of words.now.items) (files_of (S.log store.old)) → ¬ Rose (S.faults store.old) (S.faults store.new) → ¬ Rose (O.faults out.old) (O.faults out.new) → (result ≡ 0) ⊎ (result ≡ 7) }
     ensures complete_made { S.tells → (q : list ℕ) (request : meaning.Request) → command_of (texts_of words.now.items) ≡ Some (meaning.Enqueue q request) → Legal stage_reader q (S.log store.old) → CanMake q request (files_of (S.log store.old)) → AllOwn (steps_since (S.log store.old) (S.log store.new)) → ¬ Rose (S.faults store.old) (S.faults store.new) → ¬ Rose (O.faults out.old) (O.faults out.new) → (result ≡ 0) ⊎ (result ≡ 7) }
+    ensures complete_worked { S.tells → (plan : Plan) → plan_of_words (texts_of words.now.items) ≡ Some plan → Legal stage_reader plan.queue (S.log store.old) → CanFinish plan (C.last clock.old) (files_of (S.log store.old)) → AllOwn (steps_since (S.log store.old) (S.log store.new)) → ¬ Rose (S.faults store.old) (S.faults store.new) → ¬ Rose (O.faults out.old) (O.faults out.new) → (result ≡ 0) ⊎ (result ≡ 7) }
 
     // Without a queue, at status 0 the new layer has its info and exactly the wanted files, and nothing else changed.
     ensures copied { S.tells → result ≡ 0 → queue_in_use (texts_of words.now.items) ≡ None → IsCopied (texts_of words.now.items) (S.log store.old) (S.log store.new) }
@@ -266,8 +268,10 @@ pub fn igneous<R: Threads + Sync, S: Store<Pipeline>, C: Clock, O: Sink, E: Sink
     ensures drained { S.tells → (q : list ℕ) → queue_in_use (texts_of words.now.items) ≡ Some q → Legal stage_reader q (S.log store.old) → (xs ys : list Step) → (S.log store.new).steps ≡ xs ++ ys → (n : ℕ) (s : Facts) → stages_in stage_reader q (replay (S.log store.new).opening xs) n ≡ Some s → Drained (queue_of q (replay (S.log store.new).opening xs)) n → Clear (stages_in stage_reader q (replay (S.log store.new).opening xs)) n s → s.removes ≡ false → HoldsExactly s (replay (S.log store.new).opening xs) }
 
     // Of a worker: its own steps are a course of the worker of this plan, each line was printed as it was said, and the status is
-    // that of the place where it stopped.
+    // that of the place where it stopped. In a legal log, at status 0 each stage that was recorded when the last listing of the
+    // stages began is finished; at 3 so many tasks were not done, and none could be leased; at 4 there were dead letters; 5 never comes.
     ensures worked { S.tells → (plan : Plan) → plan_of_words (texts_of words.now.items) ≡ Some plan → HasWorked (is_allowed (S.rule store.old)) plan (C.last clock.old) (C.last clock.new) (S.log store.old) (S.log store.new) result O.tells (O.taken out.old) (O.taken out.new) E.tells (E.faults err.old) (E.faults err.new) (E.taken err.old) (E.taken err.new) }
+    ensures ended { S.tells → (plan : Plan) → plan_of_words (texts_of words.now.items) ≡ Some plan → Legal stage_reader plan.queue (S.log store.old) → EndsSo plan (C.last clock.old) (C.last clock.new) (S.log store.old) (S.log store.new) result O.tells (O.taken out.old) (O.taken out.new) }
 
     // What `err` took, where its count of faults did not rise.
     ensures told_words { E.tells → ¬ Rose (E.faults err.old) (E.faults err.new) → result ≡ 2 → E.taken err.new ≡ E.taken err.old ++ fault_line words_text }

@@ -1,7 +1,9 @@
-use Rattle.std.proofs.Common.{None, Some, ap, ◌∙◌, refl, sym}
+use Rattle.std.proofs.Common.{inr, None, Some, IfSome, ap, ◌∙◌, refl, sym, subst}
+use Rattle.ig_worker.specs.Plans.{HasLimits}
 use Rattle.ig_cli.specs.Words.{texts_of}
 use Rattle.ig_cli.proofs.Drains.{holds_exactly}
-use Rattle.ig_cli.proofs.TopCall.{not_ready, of_other, of_worker, queue_given, stays_legal, unread_worked, worker_legal}
+use Rattle.ig_cli.proofs.TopCall.{not_ready, of_other, of_worker, queue_given, stays_legal, unread_ends, unread_worked, worker_ends, worker_legal}
+use Rattle.ig_cli.proofs.WorkerFinishes.{worker_finishes}
 use Rattle.ig_cli.proofs.command.igneous.Goals as goal
 
 -- ---- a worker
@@ -16,6 +18,23 @@ pub returns-in-Ok-Some-clause-drained : goal.returns-in-Ok-Some-clause-drained
 returns-in-Ok-Some-clause-drained g c = λ tells q in_use legal.
     holds_exactly q _
     (worker_legal (texts_of c.args.words.now.items) c.in-Ok-Some.plan q _ _ (sym c.in-Ok-Some.field-0-is ∙ c.in-Ok-Some.ensures.value) in_use (c.work.ensures.legal tells) legal)
+
+pub returns-in-Ok-Some-clause-ended : goal.returns-in-Ok-Some-clause-ended
+returns-in-Ok-Some-clause-ended g c = λ tells plan.
+    worker_ends (texts_of c.args.words.now.items) _ c.in-Ok-Some.plan plan _ _ _ _ _ _ _ _ _ _ _ _ _
+    (sym c.in-Ok-Some.field-0-is ∙ c.in-Ok-Some.ensures.value) c.requires
+    (subst (λ o. IfSome o HasLimits) c.in-Ok-Some.field-0-is c.in-Ok-Some.ensures.limits)
+    (g.met.C.Clock.bounded c.work.new.clock)
+    (c.work.ensures.worked tells)
+
+pub returns-in-Ok-Some-clause-complete_worked : goal.returns-in-Ok-Some-clause-complete_worked
+returns-in-Ok-Some-clause-complete_worked g c = λ tells asked asks legal can own quiet out_quiet.
+    worker_finishes _ _ _ _ _ _ _ _ _ _ _ _ _ _ (texts_of c.args.words.now.items) _ asked
+    (sym c.in-Ok-Some.field-0-is ∙ c.in-Ok-Some.ensures.value) c.requires
+    (subst (λ o. IfSome o HasLimits) c.in-Ok-Some.field-0-is c.in-Ok-Some.ensures.limits)
+    (g.met.C.Clock.bounded c.work.new.clock)
+    (c.work.ensures.worked tells) asks legal can own
+    (λ six. quiet (c.work.ensures.store_failed six)) (λ nine. out_quiet (c.work.ensures.out_failed nine))
 
 -- ---- no worker
 pub returns-in-Ok-None-clause-statuses : goal.returns-in-Ok-None-clause-statuses
@@ -61,3 +80,10 @@ pub returns-in-Err-clause-worked : goal.returns-in-Err-clause-worked
 returns-in-Err-clause-worked g c = λ tells plan asked.
     unread_worked _ plan _ _ _ _ _ _ _ _ _ _ _ _ (ap g.S.Store.log (c.make_or_copy-in-Err.ensures.unread refl)) (c.make_or_copy-in-Err.ensures.unread_status refl)
     c.make_or_copy-in-Err.ensures.printed_nothing c.make_or_copy-in-Err.ensures.told_memory
+
+pub returns-in-Err-clause-ended : goal.returns-in-Err-clause-ended
+returns-in-Err-clause-ended g c = λ tells plan asked legal.
+    unread_ends plan _ _ _ _ _ _ _ (ap g.S.Store.log (c.make_or_copy-in-Err.ensures.unread refl)) (c.make_or_copy-in-Err.ensures.unread_status refl) c.make_or_copy-in-Err.ensures.printed_nothing
+
+pub returns-in-Err-clause-complete_worked : goal.returns-in-Err-clause-complete_worked
+returns-in-Err-clause-complete_worked g c = λ tells asked asks legal can own quiet out_quiet. inr (c.make_or_copy-in-Err.ensures.unread_status refl)
