@@ -55,7 +55,8 @@ const SHORT_SECOND: File = ("seg/8_8_8/2-4_0-1_0-1", &[3, 0, 4]);
 
 const THIRD: File = ("seg/8_8_8/4-5_0-1_0-1", &[5, 0]);
 
-fn files_of(alloc: Global, given: &[File]) -> Result<FileMap, Failed> {
+/// These files, in memory.
+pub(crate) fn files_of(alloc: Global, given: &[File]) -> Result<FileMap, Failed> {
     let mut files = FileMap::new(alloc);
     for (path, bytes) in given {
         put(alloc, &mut files, path, bytes)?;

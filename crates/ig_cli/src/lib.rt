@@ -9,6 +9,8 @@ mod done;
 #[cfg(test)]
 mod encodings_tests;
 #[cfg(test)]
+mod execute_tests;
+#[cfg(test)]
 mod layers_tests;
 mod lines;
 mod options;

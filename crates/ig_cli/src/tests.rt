@@ -70,7 +70,7 @@ fn words_of(alloc: Global, text: &str) -> Result<Vec<String>, Failed> {
     Ok(words)
 }
 
-/// Runs the command of these words; `out` takes at most so many bytes.
+/// Runs the command of these words at second 1000; `out` takes at most so many bytes.
 pub(crate) fn run<R: Threads + Sync>(
     rt: &R,
     alloc: Global,
@@ -79,10 +79,23 @@ pub(crate) fn run<R: Threads + Sync>(
     fails: Fails,
     limit: u64,
 ) -> Result<Done, Failed> {
+    run_at(rt, alloc, text, files, fails, limit, 1000)
+}
+
+/// The same at this second.
+pub(crate) fn run_at<R: Threads + Sync>(
+    rt: &R,
+    alloc: Global,
+    text: &str,
+    files: FileMap,
+    fails: Fails,
+    limit: u64,
+    at: u64,
+) -> Result<Done, Failed> {
     let words = words_of(alloc, text)?;
     let rule = rule_of(alloc, &words)?;
     let mut store = MemStore::new(alloc, rule, files, fails)?;
-    let mut clock = MemClock::new(1000);
+    let mut clock = MemClock::new(at);
     let mut out = MemSink::new(alloc, limit)?;
     let mut err = MemSink::new(alloc, 1000)?;
     let status = igneous(
