@@ -10,6 +10,7 @@ mod temp_name;
 use ig_cli::{igneous, rule_of};
 use ig_store::Sink;
 use posix_store::PosixStore;
+use std::alloc::Global;
 use std::env::Env;
 use std::io::{ErrorKind, writer};
 use std::process::ExitCode;
@@ -30,11 +31,23 @@ fn words_of<R: Env + AllocGlobal>(rt: &R) -> io::Result<Vec<String>> {
     Ok(words)
 }
 
+/// So many bytes that were freed the C library's `malloc` is to keep for the next task.
+const KEPT: usize = 64 << 20;
+
+/// Frees a block of half as many. glibc then takes blocks up to that size from its heap, and gives back what is free at the heap's end
+/// only where it is more than twice as much (`M_MMAP_THRESHOLD` in `mallopt`); else the memory of each task is mapped and cleared anew.
+fn keep_freed(alloc: Global) {
+    if let Ok(block) = Vec::<u8>::with_capacity(alloc, KEPT / 2 - (64 << 10)) {
+        drop(block);
+    }
+}
+
 /// Runs the command of these words over the files under the working directory.
 fn run<R, E: Sink>(rt: &R, words: &Vec<String>, err: &mut E) -> io::Result<u8>
 where
     R: Files + Clock + RandomSource + Print + Threads + AllocGlobal + Clone + Drop + Sync,
 {
+    keep_freed(rt.alloc());
     let rule = rule_of(rt.alloc(), words)?;
     let mut store = PosixStore::new(rt.clone()?, rule)?;
     let mut clock = SystemClock::new(rt.clone()?);

@@ -11,8 +11,8 @@ use crate::temp_name::temp_name;
 use ig_space::is_segment_text;
 use ig_store::{Bytes, Names, Path, Text};
 use std::alloc::{AllocError, Global};
-use std::fs::File;
-use std::io::{ErrorKind, Write};
+use std::fs::{File, OpenFile};
+use std::io::{ErrorKind, Read, Write};
 use std::rt::Files;
 use std::{fs, io};
 use uuid::Uuid;
@@ -24,11 +24,20 @@ pub fn place(alloc: Global, root: &str, path: &str) -> Result<String, AllocError
     format!(in alloc; "{root}{path}")
 }
 
+/// The bytes of the file, with room made for as many as it has.
+fn read_whole<F: Files + AllocGlobal>(rt: &F, place: &str) -> io::Result<Vec<u8>> {
+    let mut file = File::open(rt, place)?;
+    let room = (file.metadata()?.len() as usize).saturating_add(1);
+    let mut bytes = Vec::with_capacity(rt.alloc(), room)?;
+    file.read_to_end(&mut bytes)?;
+    Ok(bytes)
+}
+
 /// The bytes of the file, or `None` exactly where there is no such file.
 pub fn read_file<F: Files + AllocGlobal>(rt: &F, place: &str) -> io::Result<Option<Bytes>>
     ensures { IfErr result (λ e. error_kind e ≢ ErrorKind.NotFound) }
 {
-    match fs::read(rt, place) {
+    match read_whole(rt, place) {
         Ok(bytes) => Ok(Some(Bytes::from_vec(bytes))),
         Err(e) if e.kind() == ErrorKind::NotFound => Ok(None),
         Err(e) => Err(e),

@@ -1,0 +1,231 @@
+#!/usr/bin/env python3
+"""Measures the program beside a plain one that does the same work, and what a queue adds to a task.
+
+Usage: bench/yardstick.py [PROGRAM] [--runs N]
+
+PROGRAM is crates/igneous/out/igneous without the word. The plain program, plain.rs, is compiled by `rustc`. Both copy, rechunk and
+recode one generated layer, N times each (7), in turns; both have to leave the same files, byte for byte. Then layers of tiny tasks are
+copied at once and by way of a queue. The best of the runs is printed. All files lie in a temporary folder, which is removed.
+"""
+import argparse
+import filecmp
+import os
+import shutil
+import subprocess
+import sys
+import tempfile
+import time
+from dataclasses import dataclass
+
+HERE = os.path.dirname(os.path.abspath(__file__))
+DEFAULT_PROGRAM = os.path.join(HERE, "..", "crates", "igneous", "out", "igneous")
+RAW = "raw"
+COMPRESSED = "compressed_segmentation"
+SIZE = "512,512,64"
+CHUNK = "64,64,64"
+RUNS = 7
+QUEUE_TASKS = (100, 1_000, 10_000)
+QUEUE_RUNS = 3
+# With ten times the tasks, the queue's cost a task may be so many times as great before it is said to grow.
+STEADY = 1.25
+
+
+@dataclass
+class Work:
+    name: str
+    source: str  # the folder of the source, which has the name of its encoding
+    chunk: str
+    shape: str
+    encoding: str
+
+
+WORKS = [
+    Work("copy raw", RAW, CHUNK, "128,128,128", RAW),
+    Work("copy compressed", COMPRESSED, CHUNK, "128,128,128", COMPRESSED),
+    Work("rechunk raw", RAW, "128,128,64", "256,256,64", RAW),
+    Work("recode raw to compressed", RAW, CHUNK, "128,128,128", COMPRESSED),
+    Work("recode compressed to raw", COMPRESSED, CHUNK, "128,128,128", RAW),
+]
+
+
+@dataclass
+class Cost:
+    wall: float  # seconds
+    busy: float  # seconds of user and system together
+    memory: float  # peak, in megabytes
+
+
+def run(words):
+    """Runs a process to its end, and gives what it cost."""
+    begun = time.perf_counter()
+    process = subprocess.Popen(words, stdout=subprocess.DEVNULL)
+    _, status, usage = os.wait4(process.pid, 0)
+    wall = time.perf_counter() - begun
+    process.returncode = os.waitstatus_to_exitcode(status)
+    if process.returncode != 0:
+        sys.exit(f"{' '.join(words)}: status {process.returncode}")
+    return Cost(wall, usage.ru_utime + usage.ru_stime, usage.ru_maxrss / 1024)
+
+
+def best(costs):
+    """The least of each kind of cost, and the greatest memory."""
+    return Cost(min(cost.wall for cost in costs), min(cost.busy for cost in costs), max(cost.memory for cost in costs))
+
+
+def files_of(folder):
+    found = []
+    for place, _, names in os.walk(folder):
+        found += [os.path.relpath(os.path.join(place, name), folder) for name in names]
+    return sorted(found)
+
+
+def check_same(one, other):
+    """Ends with an error where two folders don't hold the same files."""
+    names = files_of(one)
+    if names != files_of(other):
+        sys.exit(f"{one} and {other} hold files of different names")
+    for name in names:
+        if not filecmp.cmp(f"{one}/{name}", f"{other}/{name}", shallow=False):
+            sys.exit(f"{one}/{name} and {other}/{name} differ")
+
+
+def empty(folder):
+    """Empties the files of a folder. None is removed before the end: some file systems are slow to make files just after others were
+    removed."""
+    for name in files_of(folder):
+        os.truncate(f"{folder}/{name}", 0)
+
+
+def product_words(program, source, dest, chunk, shape, encoding):
+    options = ["--chunk-size", chunk, "--shape", shape, "--encoding", encoding]
+    return [program, "image", "xfer", source, dest, *options]
+
+
+def measure_work(program, plain, work, runs):
+    """The best costs of the product and of the plain program, which take turns."""
+    product_costs, plain_costs = [], []
+    how = (work.chunk, work.shape, work.encoding)
+    for number in range(runs):
+        by_product, by_plain = (f"{work.name} {number} {by}".replace(" ", "-") for by in ("product", "plain"))
+        product_costs.append(run(product_words(program, work.source, by_product, *how)))
+        plain_costs.append(run([plain, "copy", work.source, by_plain, *how]))
+        check_same(by_product, by_plain)
+        empty(by_product)
+        empty(by_plain)
+    return best(product_costs), best(plain_costs)
+
+
+def print_table(titles, rows):
+    """Prints rows of texts, the first column to the left and the others to the right."""
+    widths = [max(len(row[place]) for row in [titles, *rows]) for place in range(len(titles))]
+    for row in [titles, ["-" * width for width in widths], *rows]:
+        texts = [text.rjust(width) for text, width in zip(row, widths)]
+        texts[0] = row[0].ljust(widths[0])
+        print("| " + " | ".join(texts) + " |", flush=True)
+
+
+def work_row(work, product, plain):
+    texts = [work.name]
+    for mine, other in ((product.wall, plain.wall), (product.busy, plain.busy)):
+        texts += [f"{mine:.3f}", f"{other:.3f}", f"{mine / other:.2f}"]
+    return texts + [f"{product.memory:.0f}", f"{plain.memory:.0f}"]
+
+
+def measure_works(program, plain, runs):
+    rows = []
+    for encoding in (RAW, COMPRESSED):
+        run([plain, "generate", encoding, SIZE, CHUNK, encoding])
+    for work in WORKS:
+        product_cost, plain_cost = measure_work(program, plain, work, runs)
+        rows.append(work_row(work, product_cost, plain_cost))
+    print(f"A layer of {SIZE} labels of 64 bits in chunks of {CHUNK}; best of {runs} runs each; the files are the same.\n")
+    wall = ["product s", "plain s", "ratio"]
+    busy = ["product u+s", "plain u+s", "ratio"]
+    print_table(["work", *wall, *busy, "product MB", "plain MB"], rows)
+
+
+@dataclass
+class QueueCosts:
+    tasks: int
+    make: Cost
+    execute: Cost
+    local: Cost
+
+    def added(self, kind):
+        """What the queue adds to a task's cost of this kind, in microseconds."""
+        return (getattr(self.execute, kind) - getattr(self.local, kind)) / self.tasks * 1e6
+
+
+def measure_queue(program, plain, tasks):
+    """The best costs of making a stage of so many tiny tasks, of a worker on it, and of the same copy without a queue."""
+    make_costs, execute_costs, local_costs = [], [], []
+    source = f"tiny-{tasks}"
+    run([plain, "generate", source, f"{tasks},1,1", "1,1,1", RAW])
+    for number in range(QUEUE_RUNS):
+        queued, local, queue = (f"{source}-{what}-{number}" for what in ("queued", "local", "queue"))
+        make_costs.append(run([*product_words(program, source, queued, "1,1,1", "1,1,1", RAW), "--queue", f"fq://{queue}"]))
+        execute_costs.append(run([program, "execute", f"fq://{queue}"]))
+        local_costs.append(run(product_words(program, source, local, "1,1,1", "1,1,1", RAW)))
+        check_same(queued, local)
+    return QueueCosts(tasks, best(make_costs), best(execute_costs), best(local_costs))
+
+
+def queue_row(costs):
+    texts = [str(costs.tasks)]
+    for kind in ("wall", "busy"):
+        for cost in (costs.make, costs.execute, costs.local):
+            texts.append(f"{getattr(cost, kind) / costs.tasks * 1e6:.0f}")
+        texts.append(f"{costs.added(kind):.0f}")
+    return texts
+
+
+def growth_line(measured):
+    """Whether what the queue adds to a task grows with the number of tasks."""
+    fewer, most = measured[-2].added("busy"), measured[-1].added("busy")
+    verdict = "grows" if most > STEADY * fewer else "does not grow"
+    counts = ", ".join(str(costs.tasks) for costs in measured)
+    added = ", ".join(f"{costs.added('busy'):.0f}" for costs in measured)
+    return f"What the queue adds to a task {verdict}: with {counts} tasks it is {added} microseconds of user and system time."
+
+
+def measure_queues(program, plain):
+    measured = [measure_queue(program, plain, tasks) for tasks in QUEUE_TASKS]
+    print(f"\nTasks of one voxel each; best of {QUEUE_RUNS} runs each; microseconds a task.\n")
+    names = ["make", "execute", "local", "added"]
+    print_table(["tasks", *names, *(f"{name} u+s" for name in names)], [queue_row(costs) for costs in measured])
+    print("\n" + growth_line(measured))
+
+
+def compile_plain(folder):
+    plain = os.path.join(folder, "plain")
+    words = ["rustc", "--edition", "2024", "-O", "-o", plain, os.path.join(HERE, "plain.rs")]
+    if subprocess.run(words).returncode != 0:
+        sys.exit("plain.rs was not compiled")
+    return plain
+
+
+def words_given():
+    parser = argparse.ArgumentParser(description="Measures the program beside a plain one that does the same work.")
+    parser.add_argument("program", nargs="?", default=DEFAULT_PROGRAM)
+    parser.add_argument("--runs", type=int, default=RUNS)
+    return parser.parse_args()
+
+
+def main():
+    given = words_given()
+    program = os.path.abspath(given.program)
+    if not os.access(program, os.X_OK):
+        sys.exit(f"{given.program} is no program")
+    folder = tempfile.mkdtemp(prefix="yardstick-")
+    try:
+        plain = compile_plain(folder)
+        os.chdir(folder)
+        measure_works(program, plain, given.runs)
+        measure_queues(program, plain)
+    finally:
+        os.chdir("/")
+        shutil.rmtree(folder)
+
+
+if __name__ == "__main__":
+    main()
