@@ -128,7 +128,7 @@ means plan from to old new ms place status out_tells out_before out_now w said l
       finished = λ none.
           let e = finished_end place status w.ended none in
           let h = finished Worker plan from old ms to place w.last limits small legal w.course e.0 e.1 in
-          (e.0, e.1, h.2, h.0, λ n t is. done_still q (files_of w.last) (files_of new) lasts n t (h.1 n t is));
+          (e.0, e.1, h.0, h.1, λ n t is. done_still q (files_of w.last) (files_of new) lasts n t (h.1.all n t is));
       waiting = λ three.
           let e = waiting_end place status w.ended three in
           let h = waiting Worker plan from old ms to place w.last limits small legal w.course e.0 e.1 in

@@ -20,9 +20,8 @@ use Rattle.ig_worker.specs.declared.phase.Phase.TheVariants.{Broken}
 use Rattle.ig_worker.specs.declared.plan.Plan.{Plan}
 use Rattle.ig_worker.specs.declared.turn.End.{End}
 use Rattle.ig_worker.specs.declared.turn.End.TheVariants.{Finished, Waiting, Letters, Spent}
-use Rattle.ig_worker.specs.AtEnd.{AreDone, Ended as HasEnded, Tells, Waits}
+use Rattle.ig_worker.specs.AtEnd.{Ended as HasEnded, Finishes, Tells, Waits}
 use Rattle.ig_worker.specs.Course.{Course, end_at, fresh, said_of}
-use Rattle.ig_worker.specs.LastTimes.{LastListing}
 use Rattle.ig_worker.specs.Lines.{end_text, lines_text}
 use Rattle.ig_worker.specs.Moves.{Move}
 use Rattle.ig_worker.specs.Places.{State}
@@ -104,10 +103,10 @@ pub record HasWorked (allows : Bool → Files → Act → Type 0) (plan : Plan) 
   pub warned : err_tells → ¬ Rose faults_before faults_now → HasWarned place status err_before err_now
 
 -- ---- in a legal log, what its end means
--- At status 0 each stage that was recorded when the last listing of the stages began is finished, and so many tasks are done. At 3
--- so many tasks were not done when the done ones were listed, no dead letter stood throughout the listing of those, and none of the
--- queue's tasks could be leased. At 4 the dead letters that were told stood, and none of the queue's tasks could be leased. No record
--- was missing or malformed. The moves and the place are those of what was printed.
+-- At status 0 each stage that was recorded when the last listing of the stages began is finished, so many tasks are done, and no dead
+-- letter stood throughout the listing of those. At 3 so many tasks were not done when the done ones were listed, no dead letter stood
+-- throughout the listing of those, and none of the queue's tasks could be leased. At 4 the dead letters that were told stood, and none
+-- of the queue's tasks could be leased. No record was missing or malformed. The moves and the place are those of what was printed.
 pub record EndsSo (plan : Plan) (from to : ℕ) (old new : Log) (status : ℕ) (out_tells : Type 0) (out_before out_now : List ℕ) : Type 0 where
   pub ms : List Move
   pub place : State
@@ -116,8 +115,9 @@ pub record EndsSo (plan : Plan) (from to : ℕ) (old new : Log) (status : ℕ) (
   pub rest : Idled (AllowsFor Worker plan) last new
   pub said : out_tells → HasSaid ms place status out_before out_now
   pub no_fault : ¬ (status ≡ 5)
-  pub finished : status ≡ 0 → (tasks : ℕ) × (end_at place.notes place.phase ≡ Some (Finished tasks)) × AreDone plan last tasks
-      × (l : LastListing (AllowsFor Worker plan) from (fresh plan) old ms to place last) × ((n : ℕ) (t : Facts) → stages_in stage_reader plan.queue (files_of l.mid) n ≡ Some t → AllDone (queue_of plan.queue (files_of new)) n t)
+  pub finished : status ≡ 0 → (tasks : ℕ) × (end_at place.notes place.phase ≡ Some (Finished tasks))
+      × (x : HasEnded Worker plan from old ms to place last) × Finishes Worker plan x.listing.mid (x.listing.move ∷ x.listing.rest) place last x.ending tasks
+      × ((n : ℕ) (t : Facts) → stages_in stage_reader plan.queue (files_of x.listing.mid) n ≡ Some t → AllDone (queue_of plan.queue (files_of new)) n t)
   pub waiting : status ≡ 3 → (tasks : ℕ) × (end_at place.notes place.phase ≡ Some (Waiting tasks))
       × (x : HasEnded Worker plan from old ms to place last) × Waits Worker plan x.listing.mid (x.listing.move ∷ x.listing.rest) place last x.ending tasks
   pub letters : status ≡ 4 → (count : ℕ) × (end_at place.notes place.phase ≡ Some (Letters count))

@@ -9,7 +9,7 @@ use Rattle.ig_defs.specs.QueueNames.{queue_file, queue_fits, task_file, task_fit
 use Rattle.ig_rule.specs.Facts.{Facts}
 use Rattle.ig_rule.specs.QueueFiles.{Done, queue_of}
 use Rattle.ig_rule.specs.declared.role.Role.{Role}
-use Rattle.ig_rule.specs.Stages.{Clear, stages_in}
+use Rattle.ig_rule.specs.Stages.{Clear, Finished, stages_in}
 use Rattle.ig_rule.specs.Went.{Listed}
 use Rattle.ig_task.specs.Facts.{stage_reader}
 use Rattle.ig_worker.specs.declared.notes.Notes.{Notes}
@@ -110,12 +110,21 @@ pub record AreNotDone (plan : Plan) (log : Log) (n : ℕ) : Type 0 where
   pub each : (id : TaskId) → Contains tasks id → IsNotDone plan log id
 
 -- ---- what an end means
--- So many different tasks of recorded stages were not done when the done tasks were listed, and no dead letter stood throughout
--- the listing of dead letters.
+-- No dead letter stood throughout the listing of dead letters.
+abbrev pub NoneIsDead : (role : Role) (plan : Plan) (mid : Log) (ms : List Move) (next : State) (new : Log) → Ending role plan mid ms next new → Type 0
+NoneIsDead role plan mid ms next new e = (id : TaskId) → task_fits id ≡ true → StandsThroughout (files_of e.deads) e.lists_dead.acted.others (joined plan.queue (codes "dead")) (task_file id) → ⊥
+
+-- So many different tasks are done, and so is each task of each stage that was recorded in the log `mid`; and no dead letter stood.
+pub record Finishes (role : Role) (plan : Plan) (mid : Log) (ms : List Move) (next : State) (new : Log) (e : Ending role plan mid ms next new) (n : ℕ) : Type 0 where
+  pub tasks : AreDone plan new n
+  pub all : (k : ℕ) (t : Facts) → IsRecorded plan mid k t → Finished (queue_of plan.queue (files_of new)) k t
+  pub no_dead : NoneIsDead role plan mid ms next new e
+
+-- So many different tasks of recorded stages were not done when the done tasks were listed, and no dead letter stood.
 pub record Waits (role : Role) (plan : Plan) (mid : Log) (ms : List Move) (next : State) (new : Log) (e : Ending role plan mid ms next new) (n : ℕ) : Type 0 where
   pub some : 1 ≤ n
   pub tasks : AreNotDone plan e.dones n
-  pub no_dead : (id : TaskId) → task_fits id ≡ true → StandsThroughout (files_of e.deads) e.lists_dead.acted.others (joined plan.queue (codes "dead")) (task_file id) → ⊥
+  pub no_dead : NoneIsDead role plan mid ms next new e
 
 -- It tells so many dead letters, each of which stood at a moment of that listing.
 pub record Tells (role : Role) (plan : Plan) (mid : Log) (ms : List Move) (next : State) (new : Log) (e : Ending role plan mid ms next new) (count : ℕ) : Type 0 where

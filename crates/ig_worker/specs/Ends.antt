@@ -3,12 +3,9 @@ use Rattle.std.specs.Prelude.{◌≡◌, ◌≤◌, ◌<◌, ◌^◌, ◌+◌, �
 use Rattle.std.proofs.Common.{arith, ap, sym, subst, true≢false, ◌∙◌}
 use Rattle.std.proofs.lemmas.Option.{none-some, same_Some}
 use Rattle.ig_space.specs.declared.task_id.TaskId.{TaskId}
-use Rattle.ig_defs.specs.Log.{Log, files_of}
-use Rattle.ig_rule.specs.Facts.{Facts}
-use Rattle.ig_rule.specs.QueueFiles.{queue_of}
+use Rattle.ig_defs.specs.Log.{Log}
 use Rattle.ig_rule.specs.declared.role.Role.{Role}
 use Rattle.ig_rule.specs.Sound.{Legal}
-use Rattle.ig_rule.specs.Stages.{Finished, stages_in}
 use Rattle.ig_task.specs.Facts.{stage_reader}
 use Rattle.ig_worker.specs.declared.notes.Notes.{Notes}
 use Rattle.ig_worker.specs.declared.phase.Phase.{Phase}
@@ -16,7 +13,7 @@ use Rattle.ig_worker.specs.declared.phase.Phase.TheVariants.{Starting, Learning,
 use Rattle.ig_worker.specs.declared.plan.Plan.{Plan}
 use Rattle.ig_worker.specs.declared.turn.End.{End}
 use Rattle.ig_worker.specs.declared.turn.End.TheVariants as end
-use Rattle.ig_worker.specs.AtEnd.{AreDone, Ended, Tells, Waits}
+use Rattle.ig_worker.specs.AtEnd.{Ended, Finishes, Tells, Waits}
 use Rattle.ig_worker.specs.Course.{Course, end_at, fresh}
 use Rattle.ig_worker.specs.EndsClosing.{ending_of}
 use Rattle.ig_worker.specs.EndsCourse.{course_later, last_listing, last_round}
@@ -27,7 +24,7 @@ use Rattle.ig_worker.specs.EndsPlaces.{course_keeps}
 use Rattle.ig_worker.specs.EndsRound.{round_ends}
 use Rattle.ig_worker.specs.EndsSaid.{course_none, is_late}
 use Rattle.ig_worker.specs.EndsWaiting.{are_not_done, dead_stood, no_dead_stood}
-use Rattle.ig_worker.specs.LastTimes.{LastListing, is_ending, is_round}
+use Rattle.ig_worker.specs.LastTimes.{is_ending, is_round}
 use Rattle.ig_worker.specs.Moves.{Move}
 use Rattle.ig_worker.specs.Places.{State, counted, end_by}
 use Rattle.ig_worker.specs.Plans.{HasLimits}
@@ -35,7 +32,6 @@ use Rattle.ig_worker.specs.Stages.{Known, all_tasks, all_unlisted, tasks_listed}
 use Rattle.ig_worker.specs.Standing.{AllowsFor}
 
 -- ---- the course to an end
-
 final_ends : (phase : Phase) → is_final phase ≡ true → is_ending phase ≡ true
 final_ends (Over end) e = refl
 final_ends (Telling letters count) e = refl
@@ -129,14 +125,20 @@ module _ (role : Role) (plan : Plan) (from : ℕ) (old : Log) (ms : List Move) (
       end_of g.notes g.notes.known (tasks_listed g.dead_names) g.done_names e (ap (λ (s : State). end_at s.notes s.phase) (sym g.is) ∙ is)
 
   -- Where it has finished so many tasks, they are done; and so is each task of each stage that was recorded when its last listing
-  -- of the stages began.
+  -- of the stages began. No dead letter stood.
   pub finished : (tasks : ℕ) → end_at next.notes next.phase ≡ Some (end.Finished tasks)
-      → (l : LastListing (AllowsFor role plan) from (fresh plan) old ms to next new) × ((n : ℕ) (t : Facts) → stages_in stage_reader plan.queue (files_of l.mid) n ≡ Some t → Finished (queue_of plan.queue (files_of new)) n t) × AreDone plan new tasks
+      → (x : Ended role plan from old ms to next new) × Finishes role plan x.listing.mid (x.listing.move ∷ x.listing.rest) next new x.ending tasks
   finished tasks is =
       let x = ended_as (end.Finished tasks) refl is in
       let l = x.listing in
-      let left = no_letters (tasks_listed x.ending.dead_names) _ _ (end.Finished tasks) (λ count e. absurd (cc)) (end_is x (end.Finished tasks) is) in
-      (l, all_done role plan l.mid (l.move ∷ l.rest) next new x.ending left.1.0, are_done role plan l.mid (l.move ∷ l.rest) next new x.ending tasks left.1.1 left.1.0)
+      let left = no_letters (tasks_listed x.ending.dead_names) _ _ (end.Finished tasks) (λ count e. absurd (cc)) (end_is x (end.Finished tasks) is) in (
+        x,
+        record {
+          tasks = are_done role plan l.mid (l.move ∷ l.rest) next new x.ending tasks left.1.1 left.1.0;
+          all = all_done role plan l.mid (l.move ∷ l.rest) next new x.ending left.1.0;
+          no_dead = no_dead_stood role plan l.mid (l.move ∷ l.rest) next new x.ending left.0;
+        },
+      )
 
   -- Where it waits for so many tasks, they are not done, no dead letter stood, and none of the queue's tasks could be leased.
   pub waiting : (n : ℕ) → end_at next.notes next.phase ≡ Some (end.Waiting n)
