@@ -6,7 +6,8 @@ Usage: tests/killed_workers.py PROGRAM [KILLS [SEED]]
 
 The new layer must then hold the same files as one that a single process copied. Leases are of one second, and a stalled
 worker goes on after more than that, so that its task is done again meanwhile. Prints how many workers were killed and how many
-stalled, and how many tasks were late, or were told of more than once. It ends with status 1 where the layers differ, or where the queue does not come to its end in time.
+stalled, and how many tasks were late, or were told of more than once. It ends with status 1 where the layers differ, or where the
+queue does not come to its end in time.
 """
 import os
 import random
