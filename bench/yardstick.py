@@ -25,7 +25,7 @@ SIZE = "512,512,64"
 CHUNK = "64,64,64"
 RUNS = 7
 QUEUE_TASKS = (100, 1_000, 10_000)
-QUEUE_RUNS = 3
+QUEUE_RUNS = 6
 # With ten times the tasks, the queue's cost a task may be so many times as great before it is said to grow.
 STEADY = 1.25
 
@@ -156,18 +156,15 @@ class QueueCosts:
         return (getattr(self.execute, kind) - getattr(self.local, kind)) / self.tasks * 1e6
 
 
-def measure_queue(program, plain, tasks):
-    """The best costs of making a stage of so many tiny tasks, of a worker on it, and of the same copy without a queue."""
-    make_costs, execute_costs, local_costs = [], [], []
+def run_queue(program, tasks, number):
+    """What the making of a stage of so many tiny tasks costs, a worker on it, and the same copy without a queue."""
     source = f"tiny-{tasks}"
-    run([plain, "generate", source, f"{tasks},1,1", "1,1,1", RAW])
-    for number in range(QUEUE_RUNS):
-        queued, local, queue = (f"{source}-{what}-{number}" for what in ("queued", "local", "queue"))
-        make_costs.append(run([*product_words(program, source, queued, "1,1,1", "1,1,1", RAW), "--queue", f"fq://{queue}"]))
-        execute_costs.append(run([program, "execute", f"fq://{queue}"]))
-        local_costs.append(run(product_words(program, source, local, "1,1,1", "1,1,1", RAW)))
-        check_same(queued, local)
-    return QueueCosts(tasks, best(make_costs), best(execute_costs), best(local_costs))
+    queued, local, queue = (f"{source}-{what}-{number}" for what in ("queued", "local", "queue"))
+    make = run([*product_words(program, source, queued, "1,1,1", "1,1,1", RAW), "--queue", f"fq://{queue}"])
+    execute = run([program, "execute", f"fq://{queue}"])
+    at_once = run(product_words(program, source, local, "1,1,1", "1,1,1", RAW))
+    check_same(queued, local)
+    return make, execute, at_once
 
 
 def queue_row(costs):
@@ -189,7 +186,11 @@ def growth_line(measured):
 
 
 def measure_queues(program, plain):
-    measured = [measure_queue(program, plain, tasks) for tasks in QUEUE_TASKS]
+    """Prints the best costs, a row for each number of tasks, which take turns."""
+    for tasks in QUEUE_TASKS:
+        run([plain, "generate", f"tiny-{tasks}", f"{tasks},1,1", "1,1,1", RAW])
+    turns = [[run_queue(program, tasks, number) for tasks in QUEUE_TASKS] for number in range(QUEUE_RUNS)]
+    measured = [QueueCosts(tasks, *map(best, zip(*own))) for tasks, own in zip(QUEUE_TASKS, zip(*turns))]
     print(f"\nTasks of one voxel each; best of {QUEUE_RUNS} runs each; microseconds a task.\n")
     names = ["make", "execute", "local", "added"]
     print_table(["tasks", *names, *(f"{name} u+s" for name in names)], [queue_row(costs) for costs in measured])
