@@ -81,37 +81,3 @@ pub fn lines_of(alloc: Global, done: &Done) -> Result<String, AllocError>
         Done::Made(made) => made_line(alloc, made),
     }
 }
-
-#[cfg(test)]
-mod tests {
-    use super::*;
-    use std::process::Abort;
-
-    #[test]
-    fn tells_what_ran(rt: HostRuntime) {
-        let mut ran = Ran::new(rt.alloc());
-        for (kind, tasks) in [(Kind::Xfer, 12), (Kind::Remove, 1)] {
-            ran.push(RanStage { kind, tasks }).expect(&rt, "memory");
-        }
-        let text = lines_of(rt.alloc(), &Done::Ran(ran)).expect(&rt, "memory");
-        assert_eq!(rt; text.as_str(), "ran xfer tasks 12\nran rm tasks 1\n");
-    }
-
-    #[test]
-    fn tells_what_was_made(rt: HostRuntime) {
-        let (kind, stage, tasks) = (Kind::Xfer, 7, 1000000);
-        for (made, told) in [
-            (
-                Made::New { stage, kind, tasks },
-                "made 0007 xfer tasks 1000000\n",
-            ),
-            (
-                Made::Continued { stage, kind, tasks },
-                "continued 0007 xfer tasks 1000000\n",
-            ),
-        ] {
-            let text = lines_of(rt.alloc(), &Done::Made(made)).expect(&rt, "memory");
-            assert_eq!(rt; text.as_str(), told);
-        }
-    }
-}

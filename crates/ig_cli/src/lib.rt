@@ -6,35 +6,19 @@
 mod causes;
 mod command;
 mod done;
-#[cfg(test)]
-mod encodings_tests;
-#[cfg(test)]
-mod execute_tests;
-#[cfg(test)]
-mod layers_tests;
 mod lines;
 mod options;
 mod plan_words;
-#[cfg(test)]
-mod plan_words_tests;
-#[cfg(test)]
-mod planning_tests;
-#[cfg(test)]
-mod queue_tests;
 mod queue_words;
 mod report;
 mod rule;
-#[cfg(test)]
-mod tests;
 mod words;
-#[cfg(test)]
-mod words_tests;
 mod worker_lines;
-#[cfg(test)]
-mod worker_lines_tests;
 mod working;
 
 pub use command::igneous;
 pub use ig_task::{Pipeline, Role};
+pub use plan_words::read_plan;
 pub use rule::rule_of;
+pub use worker_lines::{end_line, line_of};
 pub use working::work;

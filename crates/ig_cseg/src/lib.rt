@@ -5,8 +5,6 @@
 mod blocks;
 mod check;
 mod decoder;
-#[cfg(test)]
-mod encode_tests;
 mod encoder;
 mod error;
 mod fault;
@@ -16,8 +14,6 @@ mod indexing;
 mod pack;
 mod parts;
 mod table;
-#[cfg(test)]
-mod tests;
 mod unpack;
 mod words;
 

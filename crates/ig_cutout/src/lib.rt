@@ -12,8 +12,6 @@ mod error;
 mod layout;
 mod paste;
 mod read;
-#[cfg(test)]
-mod tests;
 mod types;
 mod write;
 

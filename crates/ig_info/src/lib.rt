@@ -14,11 +14,7 @@ mod read_kind;
 mod read_scale;
 mod read_scales;
 mod refusal;
-#[cfg(test)]
-mod refusals;
 mod scale;
-#[cfg(test)]
-mod tests;
 
 pub use dest::{dest_info, point_value};
 pub use error::InfoError;

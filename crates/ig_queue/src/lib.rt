@@ -6,12 +6,8 @@
 mod digits;
 mod due;
 mod moves;
-#[cfg(test)]
-mod moves_tests;
 mod naming;
 mod paths;
-#[cfg(test)]
-mod tests;
 mod types;
 
 pub use due::candidates;

@@ -9,14 +9,10 @@ mod members;
 mod parse;
 mod read_place;
 mod recorded;
-#[cfg(test)]
-mod samples;
 mod soundness;
 mod stage;
 mod task;
 mod tasks;
-#[cfg(test)]
-mod tests;
 mod writing;
 
 pub use error::RecordError;

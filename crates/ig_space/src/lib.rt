@@ -15,8 +15,6 @@ mod point;
 mod raw;
 mod segment;
 mod task_id;
-#[cfg(test)]
-mod tests;
 mod text;
 mod volume;
 

@@ -6,11 +6,7 @@
 
 mod calls;
 mod continuing;
-#[cfg(test)]
-mod continuing_tests;
 mod enqueuing;
-#[cfg(test)]
-mod enqueuing_tests;
 mod error;
 mod local;
 mod making;
@@ -23,8 +19,6 @@ mod running;
 mod seal;
 mod shown;
 mod taking;
-#[cfg(test)]
-mod tests;
 
 pub use enqueuing::{Made, make};
 pub use error::{LocalError, MakeError};

@@ -14,8 +14,6 @@ mod rule;
 mod sink;
 mod steps;
 mod store;
-#[cfg(test)]
-mod tests;
 
 pub use clock::Clock;
 pub use fails::{Fail, Fails};

@@ -7,8 +7,6 @@ mod error;
 mod laws;
 mod pipeline;
 mod running;
-#[cfg(test)]
-mod tests;
 
 pub use error::RunError;
 pub use ig_rule::Role;

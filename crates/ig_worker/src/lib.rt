@@ -7,8 +7,6 @@ mod calls;
 mod counting;
 mod ending;
 mod error;
-#[cfg(test)]
-mod faults_tests;
 mod learning;
 mod next;
 mod notes;
@@ -16,16 +14,10 @@ mod phase;
 mod plan;
 mod records;
 mod round;
-#[cfg(test)]
-mod runner;
-#[cfg(test)]
-mod samples;
 mod shifts;
 mod stages;
 mod steps;
 mod tasks;
-#[cfg(test)]
-mod tests;
 mod trying;
 mod turn;
 mod worker;

@@ -1,0 +1,91 @@
+//! The moves of a task's name by themselves.
+ghost use Rattle.std.specs.Prelude.{◌≤◌, length};
+
+use crate::told::steps_text;
+use crate::{Told, World};
+use ig_queue::{Closed, Lease, QueueName, bury, complete, lease, parse_queue_name, queue_name};
+use ig_space::Path;
+use ig_store::{MemStore, StoreError};
+use ig_task::{Pipeline, Role};
+use std::alloc::{AllocError, Global};
+
+/// What a closing move answers.
+fn closed_word(closed: Result<Closed, StoreError>) -> &'static str {
+    match closed {
+        Ok(Closed::Done) => "done",
+        Ok(Closed::Late) => "late",
+        Err(StoreError::Failed) => "failed",
+        Err(StoreError::Memory) => "out of memory",
+    }
+}
+
+/// What a lease answers.
+fn lease_text(alloc: Global, given: Result<Lease, StoreError>) -> Result<String, AllocError> {
+    match given {
+        Ok(Lease::Leased(name)) => {
+            let path = queue_name(alloc, name)?;
+            String::from_str(alloc, path.as_str())
+        }
+        Ok(Lease::Gone) => String::from_str(alloc, "gone"),
+        Err(StoreError::Failed) => String::from_str(alloc, "failed"),
+        Err(StoreError::Memory) => String::from_str(alloc, "out of memory"),
+    }
+}
+
+/// Makes the move that the word names; none where it names none, or may not be made.
+fn answer(
+    alloc: Global,
+    store: &mut MemStore<Pipeline>,
+    queue: &Path,
+    word: &str,
+    name: QueueName,
+    now: u64,
+) -> Result<Option<String>, AllocError>
+    requires { length queue.now ≤ 100 }
+{
+    match word {
+        "lease" if name.visible <= now && name.attempt < 999 => {
+            Ok(Some(lease_text(alloc, lease(alloc, store, queue, name, now, 600))?))
+        }
+        "complete" => {
+            let word = closed_word(complete(alloc, store, queue, name));
+            Ok(Some(String::from_str(alloc, word)?))
+        }
+        "bury" => {
+            let word = closed_word(bury(alloc, store, queue, name));
+            Ok(Some(String::from_str(alloc, word)?))
+        }
+        _ => Ok(None),
+    }
+}
+
+/// `lease QUEUE NAME`, for 600 seconds, `complete QUEUE NAME` or `bury QUEUE NAME`.
+pub(crate) fn ask_move(
+    world: &mut World,
+    word: &str,
+    queue: &str,
+    text: &str,
+) -> Result<Option<Told>, AllocError> {
+    let alloc = world.alloc;
+    let (Some(name), Some(queue)) = (parse_queue_name(text), Path::new(alloc, queue)?) else {
+        return Ok(None);
+    };
+    if queue.len() > 100 {
+        return Ok(None);
+    }
+    let rule = Pipeline {
+        queue: None,
+        role: Role::Worker,
+    };
+    let (files, fails) = (world.take_files(), world.take_fails());
+    let mut store = MemStore::new(alloc, rule, files, fails)?;
+    let answer = answer(alloc, &mut store, &queue, word, name, world.second)?;
+    let steps = steps_text(alloc, store.steps())?;
+    world.files = store.into_files();
+    let Some(answer) = answer else {
+        return Ok(None);
+    };
+    let mut told = Told::new(alloc, answer);
+    told.steps = steps;
+    Ok(Some(told))
+}

@@ -1,0 +1,112 @@
+//! Calls of one function below by itself.
+use crate::codecs::{ask_decode, ask_encode, labels_of, read_form};
+use crate::infos::{ask_dest, ask_read, ask_write};
+use crate::moves::ask_move;
+use crate::names::{
+    ask_candidates, ask_chunk_name, ask_path, ask_queue_name, ask_stage_name, ask_task_name,
+};
+use crate::numbers::small;
+use crate::stages::{ask_read_task, ask_stage, ask_task, ask_write_task};
+use crate::{Told, World, stages};
+use std::alloc::{AllocError, Global};
+
+/// The readers of names, of which each takes one word, or none.
+fn ask_name(alloc: Global, word: &str, text: &str) -> Result<Option<Told>, AllocError> {
+    Ok(Some(match word {
+        "parse_queue_name" => ask_queue_name(alloc, text)?,
+        "parse_task_name" => ask_task_name(alloc, text)?,
+        "parse_stage_name" => ask_stage_name(alloc, text)?,
+        "parse_chunk_name" => ask_chunk_name(alloc, text)?,
+        "path" => ask_path(alloc, text)?,
+        _ => return Ok(None),
+    }))
+}
+
+/// The readers and writers of infos.
+fn ask_info(world: &mut World, words: &[&str]) -> Result<Option<Told>, AllocError> {
+    Ok(match words {
+        ["read_info", path] => Some(ask_read(world, path)?),
+        ["write_info", path, to] => Some(ask_write(world, path, to)?),
+        ["dest_info", path, mip, to] => match small(mip) {
+            Some(mip) => Some(ask_dest(world, path, mip, to)?),
+            None => None,
+        },
+        _ => None,
+    })
+}
+
+/// The readers and writers of records, of stages with this number.
+fn ask_record(
+    world: &mut World,
+    word: &str,
+    stage: u32,
+    rest: &[&str],
+) -> Result<Option<Told>, AllocError> {
+    Ok(match (word, rest) {
+        ("read_stage", [path]) => Some(ask_stage(world, stage, path)?),
+        ("write_stage", [path, to]) => Some(stages::ask_write(world, stage, path, to)?),
+        ("read_task", [record, path]) => Some(ask_read_task(world, stage, record, path)?),
+        ("task", [record, task]) => match small(task) {
+            Some(task) => Some(ask_task(world, stage, record, task)?),
+            None => None,
+        },
+        ("write_task", [record, task, to]) => match small(task) {
+            Some(task) => Some(ask_write_task(world, stage, record, task, to)?),
+            None => None,
+        },
+        _ => None,
+    })
+}
+
+/// The block that a word gives, where `-` is none.
+fn block<'a>(word: &'a str) -> Option<&'a str> {
+    if word == "-" { None } else { Some(word) }
+}
+
+/// The codecs of chunks.
+fn ask_codec(world: &mut World, words: &[&str]) -> Result<Option<Told>, AllocError> {
+    match words {
+        ["decode", path, size, bits, own] => match read_form(size, bits, block(own)) {
+            Some(form) => ask_decode(world, path, form),
+            None => Ok(None),
+        },
+        ["encode", path, size, bits, own, labels @ ..] => {
+            let labels = labels_of(world.alloc, labels)?;
+            match (read_form(size, bits, block(own)), labels) {
+                (Some(form), Some(labels)) => ask_encode(world, path, form, labels.as_slice()),
+                _ => Ok(None),
+            }
+        }
+        _ => Ok(None),
+    }
+}
+
+/// Calls the function that the first word names; none where it names none, or a word is out of form.
+pub fn ask(world: &mut World, words: &[&str]) -> Result<Option<Told>, AllocError> {
+    let Some((word, rest)) = words.split_first() else {
+        return Ok(None);
+    };
+    match *word {
+        "read_info" | "write_info" | "dest_info" => ask_info(world, words),
+        "decode" | "encode" => ask_codec(world, words),
+        "lease" | "complete" | "bury" => match rest {
+            [queue, name] => ask_move(world, word, queue, name),
+            _ => Ok(None),
+        },
+        "candidates" => Ok(Some(ask_candidates(world.alloc, world.second, rest)?)),
+        "read_stage" | "write_stage" | "read_task" | "task" | "write_task" => {
+            match rest.split_first() {
+                Some((stage, rest)) => match small(stage) {
+                    Some(stage) => ask_record(world, word, stage, rest),
+                    None => Ok(None),
+                },
+                None => Ok(None),
+            }
+        }
+        _ => match rest {
+            [text] => ask_name(world.alloc, word, text),
+            [] => ask_name(world.alloc, word, ""),
+            _ => Ok(None),
+        },
+    }
+}
