@@ -2,19 +2,17 @@
 use Rattle.std.specs.Prelude.{◌≡◌, ℕ, true, List, Option, None, Some, is_some, refl}
 use Rattle.std.proofs.Common.{ap, sym, ◌∙◌}
 use Rattle.std.proofs.lemmas.List.{append_cancel_left}
+use Rattle.std.proofs.lemmas.Option.{same_Some}
 use Rattle.ig_space.specs.Path.{is_segment, joined}
 use Rattle.ig_defs.specs.Files.{Files, file_at}
 use Rattle.ig_defs.specs.Names.{Stands}
 use Rattle.ig_rule.specs.Dirs.{LiesIn}
 use Rattle.ig_rule.specs.Digits.{tail_is, dir_of, dir_of-joined, dir_of-segment}
 
-some_is : (xs ys : List ℕ) → ◌≡◌ {A = Option (List ℕ)} (Some xs) (Some ys) → xs ≡ ys
-some_is xs ys e = cc
-
 -- it lies in the directory that stands before a name without `/`
 pub dir_within : (dir other name path : List ℕ) → LiesIn dir path → dir_of name ≡ None → path ≡ joined other name → dir ≡ other
 dir_within dir other name path lies none e =
-    some_is _ _ (sym (dir_of-joined dir lies.name (dir_of-segment lies.name lies.is_name.segment)) ∙ ap dir_of (sym lies.is ∙ e) ∙ dir_of-joined other name none)
+    same_Some _ _ (sym (dir_of-joined dir lies.name (dir_of-segment lies.name lies.is_name.segment)) ∙ ap dir_of (sym lies.is ∙ e) ∙ dir_of-joined other name none)
 
 -- a path lies directly in one directory
 pub dir_is : (dir other path : List ℕ) → LiesIn dir path → LiesIn other path → dir ≡ other

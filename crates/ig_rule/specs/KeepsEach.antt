@@ -1,7 +1,8 @@
 -- Puts of outputs and of infos, and removals, keep the files of the stages.
-use Rattle.std.specs.Prelude.{◌≡◌, ◌⊎◌, ℕ, true, false, List, Option, None, Some, Contains}
+use Rattle.std.specs.Prelude.{◌≡◌, ◌⊎◌, ℕ, true, false, List, None, Some, Contains}
 use Rattle.std.proofs.Common.{inl, inr, ap, sym, subst, ◌∙◌}
 use Rattle.std.proofs.lemmas.Bool.{cases_eq}
+use Rattle.std.proofs.lemmas.Option.{same_Some}
 use Rattle.std.specs.FinMap as map
 use Rattle.ig_defs.specs.Files.{Files, file_at}
 use Rattle.ig_defs.specs.Puts.{cases_path, file_at-put, file_at-other}
@@ -14,9 +15,6 @@ use Rattle.ig_rule.specs.Sound.{AreSoundStages, AreSoundFiles, IsWanted}
 use Rattle.ig_rule.specs.DirPaths.{dir_is}
 use Rattle.ig_rule.specs.QueueSteps.{file_at-gone, file_at-kept}
 use Rattle.ig_rule.specs.Keeps.{KeepLaws, Keeps, IsFileOf, one_stage, other_number, keeps_same}
-
-some_is : (xs ys : List ℕ) → ◌≡◌ {A = Option (List ℕ)} (Some xs) (Some ys) → xs ≡ ys
-some_is xs ys e = cc
 
 -- two of a stage's output directories in which a path lies are one
 same_dir : (s t : Facts) (path : List ℕ) → LiesInOne s.outputs path → (b : LiesInOne t.outputs path) → Contains s.outputs b.dir
@@ -41,7 +39,7 @@ pub puts_the_same : (records : Records) (queue : Queue) (files : Files) (path by
     → PutsOutput records files path bytes → (there : List ℕ) → file_at files path ≡ Some there → bytes ≡ there
 puts_the_same records queue files path bytes laws sound u there e =
     let w = sound.outputs u.number u.stage u.is u.makes u.clear.source path there (put_lies records files path bytes laws u) e in
-    some_is bytes there (sym u.text ∙ w.text)
+    same_Some bytes there (sym u.text ∙ w.text)
 
 -- so each file stays
 output_stays : (records : Records) (queue : Queue) (files : Files) (path bytes : List ℕ) → KeepLaws records → AreSoundFiles records queue files
@@ -60,7 +58,7 @@ output_added q records files path bytes laws stages u n s is other there lies no
     put_here : other ≡ path → IsWanted s files other there
     put_here same =
         let owner : u.stage ≡ s = same_owner q records stages u.number n u.stage s u.is is path (put_lies records files path bytes laws u) (subst (LiesInOne s.outputs) same lies) in
-        let text : bytes ≡ there = some_is bytes there (sym (file_at-put files other path bytes same) ∙ now) in
+        let text : bytes ≡ there = same_Some bytes there (sym (file_at-put files other path bytes same) ∙ now) in
         let wanted : IsWanted u.stage files path bytes = record { path_is = u.path_is; text = u.text } in
         subst (λ t. IsWanted t files other there) owner (subst (λ p. IsWanted u.stage files p there) (sym same) (subst (IsWanted u.stage files path) text wanted))
 

@@ -1,18 +1,18 @@
 -- What a worker knows stays so.
 use Rattle.std.specs.Prelude.{◌≡◌, ◌⊎◌, ℕ, true, false, List, Some, Contains}
-use Rattle.std.proofs.Common.{inl, inr, ◌∙◌}
+use Rattle.std.proofs.Common.{inl, inr}
 use Rattle.std.proofs.lemmas.Bool.{cases_Bool}
 use Rattle.ig_defs.specs.declared.step.Act.{Act}
-use Rattle.ig_defs.specs.Files.{Files}
+use Rattle.ig_defs.specs.Files.{Files, file_at}
 use Rattle.ig_defs.specs.Own.{File}
 use Rattle.ig_defs.specs.Log.{after}
 use Rattle.ig_rule.specs.QueueFiles.{queue_of}
 use Rattle.ig_rule.specs.Facts.{Facts, Reader, IsPath, KindLaws}
-use Rattle.ig_rule.specs.Stages.{Records, recorded, stages_in, IsSpared, Clear}
+use Rattle.ig_rule.specs.Stages.{Records, recorded, stages_in, Clear}
 use Rattle.ig_rule.specs.Rule.{Allowed}
 use Rattle.ig_rule.specs.Sound.{Sound}
-use Rattle.ig_rule.specs.Known.{Lease, Memory, IsScratch, IsKnownLease, IsKnownOf, Known, RecordsRemoval}
-use Rattle.ig_rule.specs.Keeps.{KeepLaws, keep_laws, Keeps, other_number}
+use Rattle.ig_rule.specs.Known.{Lease, Memory, IsKnownLease, IsKnownOf, Known, RecordsRemoval}
+use Rattle.ig_rule.specs.Keeps.{KeepLaws, keep_laws, Keeps}
 use Rattle.ig_rule.specs.SoundFiles.{wanted_kept, has_wanted_kept}
 use Rattle.ig_rule.specs.Effects.{act_keeps}
 use Rattle.ig_rule.specs.QueueStays.{queue_stays}
@@ -28,10 +28,13 @@ clear_stays records later adds n s clear = record {
   outputs = λ dir one r t other is removes. clear.outputs dir one r t other (adds.removals r t is removes) removes;
 }
 
--- an earlier pass over a source that is spared has a spared source
-pass_spared : (records : Records) (files : Files) (n : ℕ) (s : Facts) (file : File) → records n ≡ Some s → s.removes ≡ false → Clear records n s → (h : IsScratch records files s file) → IsSpared records h.number h.pass.source
-pass_spared records files n s file is makes clear h r t other is' removes e =
-    clear.source r t (other_number records r n t s is' is removes makes) is' removes (e ∙ h.source)
+-- A lease that keeps inputs is of a stage that makes files.
+pub lease_makes : (records : Records) (files : Files) (l : Lease) → IsKnownLease records files l → (file : File) → Contains l.sources file ⊎ Contains l.scratch file → l.stage.removes ≡ false
+lease_makes records files l h file among = by_test (cases_Bool l.stage.removes)
+  where
+    by_test : (l.stage.removes ≡ true) ⊎ (l.stage.removes ≡ false) → l.stage.removes ≡ false
+    by_test (inl removes) = absurd (h.no_inputs removes file among)
+    by_test (inr makes) = makes
 
 lease_kept : (records later : Records) (old new : Files) → KeepLaws records → Keeps records old new → AddsNoRemoval records later → (l : Lease) → IsKnownLease records old l → IsKnownLease later new l
 lease_kept records later old new laws keeps adds l h = record {
@@ -41,9 +44,11 @@ lease_kept records later old new laws keeps adds l h = record {
   no_inputs = h.no_inputs;
   sources = λ file among. (
     (h.sources file among).0,
-    keeps.chunks l.id.stage l.stage h.is (makes file (inl among)) h.clear.source file.path file.bytes (h.sources file among).0 (h.sources file among).1,
+    keeps.chunks l.id.stage l.stage h.is (lease_makes records old l h file (inl among)) h.clear.source file.path file.bytes (h.sources file among).0 (h.sources file among).1,
   );
-  scratch = λ file among. scratch_kept file (makes file (inr among)) (h.scratch file among);
+  scratch = λ file among.
+      (laws l.id.stage l.stage h.is).scratch_stays (file_at old) (file_at new) file.path file.bytes
+      (keeps.chunks l.id.stage l.stage h.is (lease_makes records old l h file (inr among)) h.clear.source) (h.scratch file among);
   outputs = λ makes file among. record {
     among = (h.outputs makes file among).among;
     text = wanted_kept records old new laws keeps l.id.stage l.stage h.is makes h.clear.source file.path file.bytes (h.outputs makes file among).text;
@@ -58,25 +63,8 @@ lease_kept records later old new laws keeps adds l h = record {
   );
 }
   where
-    by_test : (file : File) → Contains l.sources file ⊎ Contains l.scratch file → (l.stage.removes ≡ true) ⊎ (l.stage.removes ≡ false) → l.stage.removes ≡ false
-    by_test file among (inl removes) = absurd (h.no_inputs removes file among)
-    by_test file among (inr makes) = makes
-
-    makes : (file : File) → Contains l.sources file ⊎ Contains l.scratch file → l.stage.removes ≡ false
-    makes file among = by_test file among (cases_Bool l.stage.removes)
-
     path_of_lease : (path : List ℕ) → Contains (l.stage.paths l.id.task) path → IsPath l.stage path
     path_of_lease path among = record { task = l.id.task; below = h.below; among = among }
-
-    scratch_kept : (file : File) → l.stage.removes ≡ false → IsScratch records old l.stage file → IsScratch later new l.stage file
-    scratch_kept file makes s = record {
-      number = s.number;
-      pass = s.pass;
-      is = adds.stages s.number s.pass s.is;
-      makes = s.makes;
-      source = s.source;
-      text = wanted_kept records old new laws keeps s.number s.pass s.is s.makes (pass_spared records old l.id.stage l.stage file h.is makes h.clear s) file.path file.bytes s.text;
-    }
 
 known_kept_of : (records later : Records) (old new : Files) → KeepLaws records → Keeps records old new → AddsNoRemoval records later → (w : Memory) → IsKnownOf records old w → IsKnownOf later new w
 known_kept_of records later old new laws keeps adds w h = record {

@@ -17,6 +17,7 @@ pub mod KnownKept
 pub mod NoQueue
 pub mod Untouched
 pub mod ScratchWanted
+pub mod KeptInputs
 pub mod QueueStays
 pub mod Beside
 -- what a process did beside others

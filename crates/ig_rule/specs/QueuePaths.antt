@@ -1,8 +1,9 @@
 -- The files of a queue are told apart by their paths.
-use Rattle.std.specs.Prelude.{◌≡◌, ◌<◌, ◌^◌, ℕ, true, false, nat_lt, ◌==◌, if◌then◌else◌, List, ◌∷◌, ◌++◌, Option, None, Some, refl, codes}
+use Rattle.std.specs.Prelude.{◌≡◌, ◌<◌, ◌^◌, ℕ, true, false, nat_lt, ◌==◌, if◌then◌else◌, List, ◌∷◌, ◌++◌, None, refl, codes}
 use Rattle.std.proofs.Common.{ap, sym, ◌∙◌, append_assoc}
 use Rattle.std.proofs.lemmas.Bool.{and_parts, ltb-true}
 use Rattle.std.proofs.lemmas.List.{append_cancel_left}
+use Rattle.std.proofs.lemmas.Option.{same_Some}
 use Rattle.std.specs.Str.{bytes_eq}
 use Rattle.ig_space.specs.Path.{joined}
 use Rattle.ig_space.specs.declared.task_id.TaskId.{TaskId}
@@ -109,15 +110,12 @@ by_sort (Dead x) (Dead y) a b s e = ap Dead (task_file_is x y a b e)
 by_sort (Done x) (Done y) a b s e = ap Done (task_file_is x y a b e)
 by_sort x y a b s e = absurd (cc)
 
-some_is : (xs ys : List ℕ) → ◌≡◌ {A = Option (List ℕ)} (Some xs) (Some ys) → xs ≡ ys
-some_is xs ys e = cc
-
 -- files of a queue with one path are one
 pub path_is : (dir : List ℕ) (x y : QueueFile) → fits x ≡ true → fits y ≡ true → path_of dir x ≡ path_of dir y → x ≡ y
 path_is dir x y a b e =
     let within : joined (folder x) (file_name x) ≡ joined (folder y) (file_name y) = tail_is _ _ _ _ (append_cancel_left dir _ _ e) in
     let folders : folder x ≡ folder y
-    = some_is _ _ (sym (dir_of-joined (folder x) (file_name x) (no_slash x)) ∙ ap dir_of within ∙ dir_of-joined (folder y) (file_name y) (no_slash y)) in
+    = same_Some _ _ (sym (dir_of-joined (folder x) (file_name x) (no_slash x)) ∙ ap dir_of within ∙ dir_of-joined (folder y) (file_name y) (no_slash y)) in
     let names : file_name x ≡ file_name y
     = tail_is _ _ _ _ (append_cancel_left (folder x) _ _ (within ∙ ap (λ f. joined f (file_name y)) (sym folders))) in
     by_sort x y a b (sym (folder_sort x) ∙ ap sort_of folders ∙ folder_sort y) names

@@ -1,6 +1,7 @@
 -- Moves of task names keep the files of a queue sound.
 use Rattle.std.specs.Prelude.{◌≡◌, ◌<◌, ℕ, List, Option, None, Some, IsSome, refl}
 use Rattle.std.proofs.Common.{ap, sym, subst, ◌∙◌}
+use Rattle.std.proofs.lemmas.Option.{same_Some}
 use Rattle.ig_space.specs.declared.task_id.TaskId.{TaskId}
 use Rattle.ig_defs.specs.Files.{Files}
 use Rattle.ig_defs.specs.QueueNames.{task_of}
@@ -39,9 +40,6 @@ done_by records files (Done other) id h = absurd h
 id_is : (x y : TaskId) → ◌≡◌ {A = Option TaskId} (Some x) (Some y) → x ≡ y
 id_is x y e = cc
 
-some_is : (xs ys : List ℕ) → ◌≡◌ {A = Option (List ℕ)} (Some xs) (Some ys) → xs ≡ ys
-some_is xs ys e = cc
-
 -- two names of one task
 same_id : (x y : QueueFile) (a b : TaskId) → x ≡ y → named_task x ≡ Some a → named_task y ≡ Some b → a ≡ b
 same_id x y a b e of of' = id_is a b (sym of ∙ ap named_task e ∙ of')
@@ -73,7 +71,7 @@ move_tasks records x y bytes old new turn shifts h z id held of there = by_place
     by_place : IsShifted x y z old new → IsTask records id held
     by_place (is_new e) =
         let was : IsTask records turn.id bytes = h.tasks x turn.id bytes turn.before shifts.before in
-        let text : bytes ≡ held = some_is bytes held (sym shifts.at ∙ ap new (sym e) ∙ there) in
+        let text : bytes ≡ held = same_Some bytes held (sym shifts.at ∙ ap new (sym e) ∙ there) in
         subst (λ b. IsTask records id b) text (subst (λ t. IsTask records t bytes) (sym (same_id z y id turn.id e of turn.after)) was)
     by_place (is_gone e gone) = let both : None ≡ Some held = sym gone ∙ there in absurd (cc)
     by_place (is_same e) = h.tasks z id held of (sym e ∙ there)

@@ -1,6 +1,7 @@
 -- Puts of task names and of seals, and moves of task names, keep the files of a queue sound.
 use Rattle.std.specs.Prelude.{◌≡◌, ◌⊎◌, ◌≤◌, ◌<◌, ℕ, List, Option, None, Some, IsSome, option_and_then, refl}
 use Rattle.std.proofs.Common.{inl, inr, ap, sym, subst, ◌∙◌}
+use Rattle.std.proofs.lemmas.Option.{same_Some}
 use Rattle.ig_space.specs.declared.task_id.TaskId.{TaskId}
 use Rattle.ig_defs.specs.Files.{Files}
 use Rattle.ig_rule.specs.QueueFiles.{QueueFile, Record, Seal, Queued, Done, named_task, Queue, queue_of}
@@ -26,9 +27,6 @@ sound_by_parts read q new records e numbered stages names files = record {
   names = subst (λ p. AreSoundNames p (queue_of q new)) (sym e) names;
   outputs = subst (λ p. AreSoundFiles p (queue_of q new) new) (sym e) files;
 }
-
-some_is : (xs ys : List ℕ) → ◌≡◌ {A = Option (List ℕ)} (Some xs) (Some ys) → xs ≡ ys
-some_is xs ys e = cc
 
 id_is : (x y : TaskId) → ◌≡◌ {A = Option TaskId} (Some x) (Some y) → x ≡ y
 id_is x y e = cc
@@ -93,7 +91,7 @@ put_tasks records n k bytes old new sets is h x id held of there = by_place (set
     by_place : (x ≡ fresh n k) ⊎ (new x ≡ old x) → IsTask records id held
     by_place (inl e) =
         let ids : task_id n k ≡ id = id_is (task_id n k) id (sym (ap named_task e) ∙ of) in
-        let text : bytes ≡ held = some_is bytes held (sym sets.at ∙ ap new (sym e) ∙ there) in
+        let text : bytes ≡ held = same_Some bytes held (sym sets.at ∙ ap new (sym e) ∙ there) in
         subst (λ b. IsTask records id b) text (subst (λ t. IsTask records t bytes) ids is)
     by_place (inr e) = h.tasks x id held of (sym e ∙ there)
 

@@ -7,14 +7,15 @@ ghost use Rattle.ig_defs.specs.declared.step.Act.{Act};
 ghost use Rattle.ig_defs.specs.declared.step.Act.TheVariants as act;
 ghost use Rattle.ig_defs.specs.declared.step.Step.{Step};
 ghost use Rattle.ig_defs.specs.Files.{Files, file_at};
+ghost use Rattle.ig_defs.specs.Own.{File};
 ghost use Rattle.ig_defs.specs.Log.{Log, after, replay, files_of, own_all, ByOthers};
 ghost use Rattle.ig_defs.specs.QueueNames.{queue_fits, task_fits, task_of};
 ghost use Rattle.ig_rule.specs.QueueFiles.{QueueFile, Record, Seal, Queued, Done, path_of, IsApartFrom, queue_of};
-ghost use Rattle.ig_rule.specs.Facts.{Facts, Reader, IsPath, LiesInOne, KindLaws};
-ghost use Rattle.ig_rule.specs.Stages.{stages_in, task_id, Clear, Sealed, Named, Finished, Drained, IsStrange};
+ghost use Rattle.ig_rule.specs.Facts.{Facts, Reader, Reading, IsPath, LiesInOne, KindLaws};
+ghost use Rattle.ig_rule.specs.Stages.{stages_in, task_id, Clear, Sealed, Named, Finished, Drained, IsStrange, HasMaker};
 ghost use Rattle.ig_rule.specs.Rule.{Allowed};
 ghost use Rattle.ig_rule.specs.Sound.{Sound, Legal, AreAllowedSteps};
-ghost use Rattle.ig_rule.specs.Known.{Memory, IsScratch, Known, RecordsRemoval};
+ghost use Rattle.ig_rule.specs.Known.{Lease, Memory, IsScratch, IsKnownLease, IsOver, Known, RecordsRemoval};
 ghost use Rattle.ig_rule.specs.Roles.{Allows};
 ghost use Rattle.ig_rule.specs.declared.role.Role.{Role};
 
@@ -70,9 +71,21 @@ pub fn rest_is_untouched()
     ensures { (read : Reader) (q : List ℕ) (files : Files) (a : Act) → Allowed read q files a → (path : List ℕ) → IsApartFrom q path → IsStrange (stages_in read q files) path → file_at (after files a) path ≡ file_at files path }
 {}
 
-/// In sound files an input that an earlier pass of a stage not under removal makes has the wanted text of that pass.
+/// In sound files a recorded stage makes each input that an earlier pass of a stage makes, so it is no file of the queue.
+/// Where the stage is not under removal and such a file stands, it has the text that is wanted there.
 pub fn scratch_is_wanted()
-    ensures { (read : Reader) → KindLaws read → (q : List ℕ) (files : Files) (n : ℕ) (s : Facts) → Sound read q files → stages_in read q files n ≡ Some s → s.removes ≡ false → Clear (stages_in read q files) n s → (path bytes : List ℕ) → s.is_scratch path ≡ true → file_at files path ≡ Some bytes → IsScratch (stages_in read q files) files s (record { path = path; bytes = bytes }) }
+    ensures maker { (read : Reader) → KindLaws read → (q : List ℕ) (files : Files) (n : ℕ) (s : Facts) → Sound read q files → stages_in read q files n ≡ Some s → (path : List ℕ) → s.is_scratch path ≡ true → HasMaker (stages_in read q files) s path }
+    ensures apart { (read : Reader) → KindLaws read → (q : List ℕ) (files : Files) (n : ℕ) (s : Facts) → Sound read q files → stages_in read q files n ≡ Some s → (path : List ℕ) → s.is_scratch path ≡ true → IsApartFrom q path }
+    ensures wanted { (read : Reader) → KindLaws read → (q : List ℕ) (files : Files) (n : ℕ) (s : Facts) → Sound read q files → stages_in read q files n ≡ Some s → s.removes ≡ false → Clear (stages_in read q files) n s → (path bytes : List ℕ) → s.is_scratch path ≡ true → file_at files path ≡ Some bytes → IsScratch files s (record { path = path; bytes = bytes }) }
+{}
+
+/// What a worker was given for a task, also in files that have lost it since, as where a removal of the directory was recorded
+/// once the stage was finished: over the files with the kept inputs, what is wanted of the stage is wanted in the files, and
+/// the kept scratch files are what earlier passes want. In sound files no other text stands at the path of one of these.
+pub fn kept_inputs_serve()
+    ensures wanted { (read : Reader) → KindLaws read → (q : List ℕ) (files : Files) (l : Lease) (mixed : Reading) → IsKnownLease (stages_in read q files) files l → IsOver l (file_at files) mixed → (path bytes : List ℕ) → l.stage.wanted mixed path ≡ Some bytes → l.stage.wanted (file_at files) path ≡ Some bytes }
+    ensures scratch { (read : Reader) → KindLaws read → (q : List ℕ) (files : Files) (l : Lease) (mixed : Reading) → IsKnownLease (stages_in read q files) files l → IsOver l (file_at files) mixed → (file : File) → Contains l.scratch file → l.stage.scratch mixed file.path ≡ Some file.bytes }
+    ensures kept { (read : Reader) → KindLaws read → (q : List ℕ) (files : Files) (l : Lease) → Sound read q files → IsKnownLease (stages_in read q files) files l → (file : File) → Contains l.scratch file → (bytes : List ℕ) → file_at files file.path ≡ Some bytes → bytes ≡ file.bytes }
 {}
 
 /// An allowed act loses no stage and no task: stages stay recorded and sealed, each task that has a name keeps one, and a

@@ -7,8 +7,8 @@ mod laws;
 mod role;
 
 pub use laws::{
-    drained_is_finished, known_is_kept, no_queue_is_sound, no_task_is_lost, others_are_safe,
-    outputs_stay, prefixes_are_legal, rest_is_untouched, scratch_is_wanted, sound_is_kept,
-    wrong_acts_are_refused,
+    drained_is_finished, kept_inputs_serve, known_is_kept, no_queue_is_sound, no_task_is_lost,
+    others_are_safe, outputs_stay, prefixes_are_legal, rest_is_untouched, scratch_is_wanted,
+    sound_is_kept, wrong_acts_are_refused,
 };
 pub use role::Role;

@@ -66,6 +66,7 @@ facts_of n s = record {
   needs = None;
   serves = None;
   is_scratch = λ path. false;
+  scratch = λ files path. None;
 }
 
 -- the stage of a record

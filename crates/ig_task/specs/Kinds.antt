@@ -68,6 +68,9 @@ copy-laws n s h is c =
       chunk_name = λ path e. chunk-not_info s.source h.fits h.layers.dir path (is_chunk_of-from s.source path e);
       info_name = λ info e. record { dir = c.layer; is = info-is s c info e };
       info_apart = info-apart s is c;
+      scratch_stays = λ old new path bytes keeps e. absurd (none-some bytes e);
+      scratch_at = λ files path bytes e. absurd (none-some bytes e);
+      scratch_apart = λ path e. absurd (true≢false (sym e));
       no_scratch = λ none path e. true≢false (sym e);
       few_tasks = h.few;
     }
@@ -88,6 +91,9 @@ removal-laws n s h is r =
       chunk_name = λ path e. chunk-not_info s.source h.fits h.layers.dir path (is_chunk_of-from s.source path e);
       info_name = λ info e. absurd (no_info s r info e);
       info_apart = λ info e within. no_info s r info e;
+      scratch_stays = λ old new path bytes keeps e. absurd (none-some bytes e);
+      scratch_at = λ files path bytes e. absurd (none-some bytes e);
+      scratch_apart = λ path e. absurd (true≢false (sym e));
       no_scratch = λ none path e. true≢false (sym e);
       few_tasks = h.few;
     }
