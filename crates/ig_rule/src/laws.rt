@@ -79,12 +79,14 @@ pub fn scratch_is_wanted()
     ensures wanted { (read : Reader) → KindLaws read → (q : List ℕ) (files : Files) (n : ℕ) (s : Facts) → Sound read q files → stages_in read q files n ≡ Some s → s.removes ≡ false → Clear (stages_in read q files) n s → (path bytes : List ℕ) → s.is_scratch path ≡ true → file_at files path ≡ Some bytes → IsScratch files s (record { path = path; bytes = bytes }) }
 {}
 
-/// What a worker was given for a task, also in files that have lost it since, as where a removal of the directory was recorded
-/// once the stage was finished: over the files with the kept inputs, what is wanted of the stage is wanted in the files, and
-/// the kept scratch files are what earlier passes want. In sound files no other text stands at the path of one of these.
+/// What a worker was given for a task serves it, also over files that have lost it since, as where a removal of the directory
+/// was recorded once the stage was finished. Over the files with the kept inputs, what is wanted of the stage is wanted in the
+/// files, and the kept scratch files are what earlier passes want; where the files are sound, so is all that is found at a
+/// scratch path, and no other text than a kept one stands at its path.
 pub fn kept_inputs_serve()
     ensures wanted { (read : Reader) → KindLaws read → (q : List ℕ) (files : Files) (l : Lease) (mixed : Reading) → IsKnownLease (stages_in read q files) files l → IsOver l (file_at files) mixed → (path bytes : List ℕ) → l.stage.wanted mixed path ≡ Some bytes → l.stage.wanted (file_at files) path ≡ Some bytes }
     ensures scratch { (read : Reader) → KindLaws read → (q : List ℕ) (files : Files) (l : Lease) (mixed : Reading) → IsKnownLease (stages_in read q files) files l → IsOver l (file_at files) mixed → (file : File) → Contains l.scratch file → l.stage.scratch mixed file.path ≡ Some file.bytes }
+    ensures found { (read : Reader) → KindLaws read → (q : List ℕ) (files : Files) (l : Lease) (mixed : Reading) → Sound read q files → IsKnownLease (stages_in read q files) files l → IsOver l (file_at files) mixed → l.stage.removes ≡ false → (path bytes : List ℕ) → l.stage.is_scratch path ≡ true → mixed path ≡ Some bytes → l.stage.scratch mixed path ≡ Some bytes }
     ensures kept { (read : Reader) → KindLaws read → (q : List ℕ) (files : Files) (l : Lease) → Sound read q files → IsKnownLease (stages_in read q files) files l → (file : File) → Contains l.scratch file → (bytes : List ℕ) → file_at files file.path ≡ Some bytes → bytes ≡ file.bytes }
 {}
 
