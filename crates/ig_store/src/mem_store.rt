@@ -1,4 +1,4 @@
-ghost use Rattle.std.specs.Prelude.{◌≡◌, ◌++◌, [], ◌∷◌, ℕ, All, IfOk, is_some, if◌then◌else◌};
+ghost use Rattle.std.specs.Prelude.{◌≡◌, ◌++◌, [], ◌∷◌, ℕ, All, IfOk, OnOk, OnErr, is_some, if◌then◌else◌};
 ghost use Rattle.std.specs.Option.{option_copied};
 ghost use Rattle.ig_defs.specs.Log.{Turn, files_of, own, own_all};
 ghost use Rattle.ig_defs.specs.Files.{file_at};
@@ -119,6 +119,8 @@ impl<R: Rule> Store<R> for MemStore<R> {
         ensures fails { self.new.fails ≡ self.old.fails }
         ensures fault { self.new.faults ≡ (if is_some (fail_of self.old.fails self.new.calls) then counted self.old.faults else self.old.faults) }
         ensures answers { Answers (fail_of self.old.fails self.new.calls) result }
+        ensures made { OnOk result (self.new.log.steps ≡ self.old.log.steps ++ own (act.Read path.now) ∷ []) }
+        ensures err { OnErr result (self.new.log.steps ≡ self.old.log.steps) }
     {
         let fail = begin(&self.fails, &mut self.calls, &mut self.faults);
         read_file(fail, &self.files, &mut self.steps, path)
@@ -133,6 +135,8 @@ impl<R: Rule> Store<R> for MemStore<R> {
         ensures fails { self.new.fails ≡ self.old.fails }
         ensures fault { self.new.faults ≡ (if is_some (fail_of self.old.fails self.new.calls) then counted self.old.faults else self.old.faults) }
         ensures answers { Answers (fail_of self.old.fails self.new.calls) result }
+        ensures made { OnOk result (self.new.log.steps ≡ self.old.log.steps ++ own (act.Read path.now) ∷ []) }
+        ensures err { OnErr result (self.new.log.steps ≡ self.old.log.steps) }
     {
         let fail = begin(&self.fails, &mut self.calls, &mut self.faults);
         has_file(fail, &self.files, &mut self.steps, path)
@@ -148,6 +152,8 @@ impl<R: Rule> Store<R> for MemStore<R> {
         ensures fails { self.new.fails ≡ self.old.fails }
         ensures fault { self.new.faults ≡ (if is_some (fail_of self.old.fails self.new.calls) then counted self.old.faults else self.old.faults) }
         ensures answers { Answers (fail_of self.old.fails self.new.calls) result }
+        ensures made { IfOk result (λ given. self.new.log.steps ≡ self.old.log.steps ++ own (act.List dir.now given) ∷ []) }
+        ensures err { OnErr result (self.new.log.steps ≡ self.old.log.steps) }
     {
         let fail = begin(&self.fails, &mut self.calls, &mut self.faults);
         list_files(fail, &self.files, &mut self.steps, dir)
