@@ -24,7 +24,6 @@ pub mod Beside
 pub mod Went
 pub mod WentOn
 -- what they rest on
-pub mod Digits
 pub mod DirPaths
 pub mod QueuePaths
 pub mod QueueSteps

@@ -16,8 +16,7 @@ use Rattle.ig_record.specs.SoundKinds.{IsCopyOf, IsRemoval, IsSoundKind, is_remo
 use Rattle.ig_record.specs.Stage.{output_dirs, task_count}
 use Rattle.ig_meaning.specs.Stage.{file_of, wanted_volume}
 use Rattle.ig_cutout.specs.declared.types.Output.{Output}
-use Rattle.ig_rule.specs.Digits.{dir_of-segment}
-use Rattle.ig_rule.specs.DirPaths.{dir_within}
+use Rattle.ig_rule.specs.DirPaths.{dir_of-segment, dir_within}
 use Rattle.ig_rule.specs.Facts.{Facts, KindLaws, LiesInOne, Pass, StageLaws}
 use Rattle.ig_task.specs.ChunkPlaces.{chunk-lies, chunk-not_info, is_chunk_of-from, is_chunk_of-is}
 use Rattle.ig_task.specs.Facts.{facts_of, stage_reader}
