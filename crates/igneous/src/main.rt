@@ -1,11 +1,13 @@
 //! The command-line tool: what stands for the system under the traits of `ig_store`, and the entry.
 #![tactic(auto)]
 
+mod posix_changes;
 mod posix_files;
 mod posix_store;
 mod std_sink;
 mod system_clock;
 mod temp_name;
+mod whole;
 
 use ig_cli::{igneous, rule_of};
 use ig_store::Sink;
@@ -13,6 +15,7 @@ use posix_store::PosixStore;
 use std::alloc::Global;
 use std::env::Env;
 use std::io::{ErrorKind, writer};
+use std::os::fd::IntoRawFd;
 use std::process::ExitCode;
 use std::random::RandomSource;
 use std::rt::Files;
@@ -46,6 +49,7 @@ fn keep_freed(alloc: Global) {
 fn run<R, E: Sink>(rt: &R, words: &Vec<String>, err: &mut E) -> io::Result<u8>
 where
     R: Files + Clock + RandomSource + Print + Threads + AllocGlobal + Clone + Drop + Sync,
+    R::File: IntoRawFd,
 {
     keep_freed(rt.alloc());
     let rule = rule_of(rt.alloc(), words)?;

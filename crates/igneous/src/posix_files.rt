@@ -7,15 +7,14 @@ ghost use Rattle.std.specs.IoError.{error_kind};
 ghost use Rattle.ig_space.specs.Path.{is_path};
 ghost use Rattle.ig_defs.specs.Names.{IsNameIn};
 
-use crate::temp_name::temp_name;
+use crate::whole::read_whole;
 use ig_space::is_segment_text;
 use ig_store::{Bytes, Names, Path, Text};
 use std::alloc::{AllocError, Global};
-use std::fs::{File, OpenFile};
-use std::io::{ErrorKind, Read, Write};
+use std::fs::{File, Metadata, OpenFile};
+use std::io::ErrorKind;
 use std::rt::Files;
 use std::{fs, io};
-use uuid::Uuid;
 
 /// Where the path lies, under this text before all paths.
 pub fn place(alloc: Global, root: &str, path: &str) -> Result<String, AllocError>
@@ -24,33 +23,47 @@ pub fn place(alloc: Global, root: &str, path: &str) -> Result<String, AllocError
     format!(in alloc; "{root}{path}")
 }
 
-/// The bytes of the file, with room made for as many as it has.
-fn read_whole<F: Files + AllocGlobal>(rt: &F, place: &str) -> io::Result<Vec<u8>> {
-    let mut file = File::open(rt, place)?;
-    let room = (file.metadata()?.len() as usize).saturating_add(1);
-    let mut bytes = Vec::with_capacity(rt.alloc(), room)?;
-    file.read_to_end(&mut bytes)?;
-    Ok(bytes)
+/// Whether this is a regular file: what is none is never opened, since a FIFO makes the opener wait, and a device may have no end.
+fn check_regular(found: &Metadata) -> io::Result<()>
+    ensures { IfErr result (λ e. error_kind e ≢ ErrorKind.NotFound) }
+{
+    if found.is_file() {
+        Ok(())
+    } else {
+        Err(io::Error::from(ErrorKind::InvalidInput))
+    }
 }
 
-/// The bytes of the file, or `None` exactly where there is no such file.
+/// The bytes of the regular file, which is looked at before it is opened, and again once it is open.
+fn read_regular<F: Files + AllocGlobal>(rt: &F, place: &str) -> io::Result<Vec<u8>> {
+    check_regular(&fs::metadata(rt, place)?)?;
+    let file = File::open(rt, place)?;
+    let found = file.metadata()?;
+    check_regular(&found)?;
+    read_whole(rt.alloc(), file, found.len())
+}
+
+/// The bytes of the file, or `None` exactly where there is no such file. What is there and no regular file, once links are followed,
+/// is an error at once.
 pub fn read_file<F: Files + AllocGlobal>(rt: &F, place: &str) -> io::Result<Option<Bytes>>
     ensures { IfErr result (λ e. error_kind e ≢ ErrorKind.NotFound) }
 {
-    match read_whole(rt, place) {
+    match read_regular(rt, place) {
         Ok(bytes) => Ok(Some(Bytes::from_vec(bytes))),
         Err(e) if e.kind() == ErrorKind::NotFound => Ok(None),
         Err(e) => Err(e),
     }
 }
 
-/// Whether a file is there, or what a symbolic link there points to. A directory is an error.
+/// Whether a regular file is there, or what a symbolic link there leads to. What is there and no regular file is an error.
 pub fn has_file<F: Files>(rt: &F, place: &str) -> io::Result<bool>
     ensures { IfErr result (λ e. error_kind e ≢ ErrorKind.NotFound) }
 {
     match fs::metadata(rt, place) {
-        Ok(found) if found.is_file() => Ok(true),
-        Ok(_) => Err(io::Error::from(ErrorKind::IsADirectory)),
+        Ok(found) => {
+            check_regular(&found)?;
+            Ok(true)
+        }
         Err(e) if e.kind() == ErrorKind::NotFound => Ok(false),
         Err(e) => Err(e),
     }
@@ -74,7 +87,7 @@ fn in_order(mut names: Vec<String>) -> Vec<String>
 }
 
 /// The names of all entries of the directory in the order of their bytes, each once; none where it isn't there.
-/// A name that isn't UTF-8 is passed over.
+/// A name that isn't UTF-8, which is no path's, is passed over.
 fn entries_of<F: Files + AllocGlobal + Clone + Drop>(rt: &F, place: &str) -> io::Result<Vec<String>>
     ensures { IfOk result (λ names. IsStrictlySortedBy string_cmp names.items) }
 {
@@ -94,18 +107,27 @@ fn entries_of<F: Files + AllocGlobal + Clone + Drop>(rt: &F, place: &str) -> io:
     Ok(in_order(names))
 }
 
-/// Whether a file is there, or what a symbolic link there points to.
-fn is_file<F: Files>(rt: &F, place: &str) -> io::Result<bool>
-    ensures { IfErr result (λ e. error_kind e ≢ ErrorKind.NotFound) }
-{
-    match fs::metadata(rt, place) {
-        Ok(found) => Ok(found.is_file()),
-        Err(e) if e.kind() == ErrorKind::NotFound => Ok(false),
-        Err(e) => Err(e),
-    }
+/// Whether a look that gave this error was at a name that leads to nothing: a link that dangles, runs in a circle, goes through what is no
+/// directory, or has too long a name in it.
+fn leads_nowhere(kind: ErrorKind) -> bool {
+    matches!(
+        kind,
+        ErrorKind::NotFound
+            | ErrorKind::FilesystemLoop
+            | ErrorKind::NotADirectory
+            | ErrorKind::InvalidFilename
+    )
 }
 
-/// Whether a file of this name, which makes a path in the directory, lies directly in it.
+/// An error where names in the directory may not be looked at, whatever they lead to.
+fn check_searchable<F: Files + AllocGlobal>(rt: &F, root: &str, dir: &str) -> io::Result<()> {
+    let itself = format!(in rt.alloc(); "{root}{dir}/.")?;
+    fs::metadata(rt, itself.as_str())?;
+    Ok(())
+}
+
+/// Whether a regular file of this name, which makes a path in the directory, lies directly in it. A name that leads to nothing, or to
+/// where this process may not look, is none.
 fn is_file_in<F: Files + AllocGlobal>(rt: &F, root: &str, dir: &str, name: &str) -> io::Result<bool>
     requires { is_path dir.now ≡ true }
     ensures { IfOk result (λ there. IsTrue there → IsNameIn dir.now name.now) }
@@ -114,7 +136,15 @@ fn is_file_in<F: Files + AllocGlobal>(rt: &F, root: &str, dir: &str, name: &str)
         return Ok(false);
     }
     let place = format!(in rt.alloc(); "{root}{dir}/{name}")?;
-    is_file(rt, place.as_str())
+    match fs::metadata(rt, place.as_str()) {
+        Ok(found) => Ok(found.is_file()),
+        Err(e) if leads_nowhere(e.kind()) => Ok(false),
+        Err(e) if e.kind() == ErrorKind::PermissionDenied => {
+            check_searchable(rt, root, dir)?;
+            Ok(false)
+        }
+        Err(e) => Err(e),
+    }
 }
 
 /// Adds the name at the end where its file is there.
@@ -145,76 +175,4 @@ pub fn names_in<F: Files + AllocGlobal + Clone + Drop>(
         add_where(there, &mut names, Text::of(alloc, name)?)?;
     }
     Ok(names)
-}
-
-/// Makes the directories above a place where they are missing.
-fn make_parent<F: Files>(rt: &F, place: &str) -> io::Result<()> {
-    match place.rsplit_once('/') {
-        Some((dir, _)) => fs::create_dir_all(rt, dir),
-        None => Ok(()),
-    }
-}
-
-/// Fills the new file, and makes it stand at the place in one step.
-fn fill_and_move<F: Files>(
-    rt: &F,
-    mut file: F::File,
-    from: &str,
-    to: &str,
-    bytes: &[u8],
-) -> io::Result<()> {
-    file.write_all(bytes)?;
-    drop(file);
-    fs::rename(rt, from, to)
-}
-
-/// Replaces the file whole, by way of the temporary file of this id. At an error no temporary file is left where it can
-/// be removed.
-pub fn replace_file<F: Files + AllocGlobal>(
-    rt: &F,
-    root: &str,
-    id: &Uuid,
-    path: &Path,
-    bytes: &[u8],
-) -> io::Result<()> {
-    let alloc = rt.alloc();
-    let temp = place(alloc, root, temp_name(alloc, id)?.as_str())?;
-    let target = place(alloc, root, path.as_str())?;
-    make_parent(rt, temp.as_str())?;
-    make_parent(rt, target.as_str())?;
-    let file = File::create_new(rt, temp.as_str())?;
-    let moved = fill_and_move(rt, file, temp.as_str(), target.as_str(), bytes);
-    if moved.is_err() {
-        let _ = fs::remove_file(rt, temp.as_str());
-    }
-    moved
-}
-
-/// Moves the file in one step, in place of the one at `to`; false exactly where there is no such file.
-fn rename_file<F: Files>(rt: &F, from: &str, to: &str) -> io::Result<bool>
-    ensures { IfErr result (λ e. error_kind e ≢ ErrorKind.NotFound) }
-{
-    match fs::rename(rt, from, to) {
-        Ok(()) => Ok(true),
-        Err(e) if e.kind() == ErrorKind::NotFound => Ok(false),
-        Err(e) => Err(e),
-    }
-}
-
-/// Moves the file in one step, in place of the one at `to`, above which missing directories are made; false exactly where
-/// there is no such file.
-pub fn move_file<F: Files>(rt: &F, from: &str, to: &str) -> io::Result<bool> {
-    make_parent(rt, to)?;
-    rename_file(rt, from, to)
-}
-
-/// Takes the file away; false exactly where there is no such file.
-pub fn remove_file<F: Files>(rt: &F, place: &str) -> io::Result<bool>
-    ensures { IfErr result (λ e. error_kind e ≢ ErrorKind.NotFound) }
-{
-    match fs::remove_file(rt, place) {
-        Ok(()) => Ok(true),
-        Err(e) if e.kind() == ErrorKind::NotFound => Ok(false),
-        Err(e) => Err(e),
-    }
 }

@@ -7,14 +7,14 @@ ghost use Rattle.std.specs.List.Sorted.{IsStrictlySortedBy};
 ghost use Rattle.std.specs.Ordering.{nat_cmp};
 ghost use Rattle.std.specs.Cmp.Lexicographic.{slice_cmp};
 
-use crate::posix_files::{
-    has_file, move_file, names_in, place, read_file, remove_file, replace_file,
-};
+use crate::posix_changes::{move_file, remove_file, replace_file};
+use crate::posix_files::{has_file, names_in, place, read_file};
 use ig_store::{Bytes, Names, Path, Rule, Store, StoreError};
 use rand_chacha::ChaCha20Rng;
 use rand_core::SeedableRng;
 use std::io;
 use std::io::ErrorKind;
+use std::os::fd::IntoRawFd;
 use std::random::RandomSource;
 use std::rt::Files;
 use uuid::Uuid;
@@ -101,7 +101,10 @@ impl<F: Files + AllocGlobal + Clone + Drop, R: Rule + Drop> PosixStore<F, R> {
     }
 }
 
-impl<F: Files + AllocGlobal + Clone + Drop, R: Rule + Drop> Store<R> for PosixStore<F, R> {
+impl<F: Files + AllocGlobal + Clone + Drop, R: Rule + Drop> Store<R> for PosixStore<F, R>
+where
+    F::File: IntoRawFd,
+{
     ghost rule = { λ store. store.rule };
 
     ghost faults = { λ store. store.faults };
