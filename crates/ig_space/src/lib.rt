@@ -21,7 +21,7 @@ mod volume;
 pub use chunk::{chunk_name, parse_chunk_name};
 pub use chunks::{chunk_path, chunks_of};
 pub use geometry::{Encoding, Geometry, Grid, LARGEST_PLACE, Width, ends_within};
-pub use list::{Bytes, List, Names, Paths, TryClone};
+pub use list::{Bytes, Classes, Firsts, List, Locals, Names, Paths, TryClone, Values};
 pub use path::{Path, is_path_text};
 pub use place::Place;
 pub use point::{Box3, Point};

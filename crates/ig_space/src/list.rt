@@ -16,6 +16,18 @@ pub type Names = List<Text>;
 /// Paths of files.
 pub type Paths = List<Path>;
 
+/// The part of each voxel of a box, x fastest, then y, then z; 0 is no part.
+pub type Locals = List<u32>;
+
+/// The first voxel of each part of a box, by its number in the box.
+pub type Firsts = List<u32>;
+
+/// For each node the least node of its class.
+pub type Classes = List<u32>;
+
+/// Labels, one for each part of a box.
+pub type Values = List<u64>;
+
 /// A list of items, seen by contracts as that list. It keeps the allocator that it was made with.
 #[derive(Debug, Drop)]
 pub struct List<T> {
@@ -38,6 +50,13 @@ impl<T> List<T> {
         List {
             items: Vec::new(alloc),
         }
+    }
+
+    /// The items of this vector, which keeps its memory.
+    pub fn from_vec(items: Vec<T>) -> Self
+        ensures { result ≡ items.items }
+    {
+        List { items }
     }
 
     /// How many items there are.
@@ -113,13 +132,6 @@ impl List<u8> {
     {
         self.items.as_slice()
     }
-
-    /// The bytes of this vector, which keeps its memory.
-    pub fn from_vec(items: Vec<u8>) -> Self
-        ensures { result ≡ items.items }
-    {
-        List { items }
-    }
 }
 
 /// A value of which a copy can be made where memory is left.
@@ -131,6 +143,18 @@ pub trait TryClone: Drop {
 
 impl TryClone for u8 {
     fn copy(&self) -> Result<u8, AllocError> {
+        Ok(*self)
+    }
+}
+
+impl TryClone for u32 {
+    fn copy(&self) -> Result<u32, AllocError> {
+        Ok(*self)
+    }
+}
+
+impl TryClone for u64 {
+    fn copy(&self) -> Result<u64, AllocError> {
         Ok(*self)
     }
 }

@@ -1,0 +1,14 @@
+pub mod Counts
+pub mod Graph
+pub mod Quotients
+pub mod Numbers
+pub mod Sets
+pub mod Forest
+pub mod Kept
+pub mod CountLaws
+pub mod PathLaws
+pub mod LeastLaws
+pub mod InjectionLaws
+pub mod QuotientLaws
+pub mod NumberLaws
+pub mod SetLaws
