@@ -3,3 +3,4 @@ pub mod Splits
 pub mod ChunkLists
 pub mod Texts
 pub mod Verdicts
+pub mod HullLaws

@@ -1,12 +1,10 @@
 -- The tasks of a sound stage.
-use Rattle.std.proofs.Common.{◌≡◌, ◌≤◌, ◌<◌, ◌+◌, ◌*◌, ℕ, suc, true, max, arith, ap, ◌∙◌, nat_cmp, mul-pos, le_refl}
-use Rattle.std.proofs.lemmas.Bool.Decides.{nat_tests}
-use Rattle.std.specs.Ordering.{ord_max}
+use Rattle.std.proofs.Common.{◌≡◌, ◌≤◌, ◌<◌, ◌+◌, ◌*◌, ℕ, true, arith, mul-pos, le_refl}
 use Rattle.ig_space.specs.Cells.{index-below}
 use Rattle.ig_space.specs.Geometry.{geometry_fits, Fits-from}
 use Rattle.ig_space.specs.Grid.{count_along, counts}
 use Rattle.ig_record.specs.declared.stage.Stage.{Stage}
-use Rattle.ig_record.specs.Stage.{greatest, task_count, task_grid}
+use Rattle.ig_record.specs.Stage.{task_count}
 use Rattle.ig_record.specs.Sound.{is_sound}
 use Rattle.ig_record.specs.SoundFacts.{HasSides, IsSound, IsSound-from}
 
@@ -33,12 +31,3 @@ tasks-some s h =
 
 pub tasks-few : (s : Stage) → is_sound s ≡ true → task_count s ≤ 1000000
 tasks-few s h = (IsSound-from s h).few
-
--- ---- the greatest of one more value
-max_is : (a b : ℕ) → ord_max nat_cmp a b ≡ max a b
-max_is a b = grind (arith, nat_tests)
-
-pub greatest-more : (f : ℕ → ℕ) (n so_far value now : ℕ) → so_far ≡ greatest f n → value ≡ f n → now ≡ ord_max nat_cmp so_far value → now ≡ greatest f (n + 1)
-greatest-more f n so_far value now before is next =
-    let suc_is : suc n ≡ n + 1 = omega arith in
-    next ∙ max_is so_far value ∙ ap (λ a. max a value) before ∙ ap (max (greatest f n)) is ∙ ap (greatest f) suc_is

@@ -1,4 +1,5 @@
 pub mod Stage
+pub mod HullSides
 pub mod Sound
 pub mod SoundFacts
 pub mod SoundKinds

@@ -4,6 +4,7 @@
 
 mod error;
 mod filed;
+mod hulls;
 mod lists;
 mod members;
 mod parse;

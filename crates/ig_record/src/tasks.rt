@@ -1,22 +1,14 @@
 //! The boxes of the tasks of a stage.
 ghost use Rattle.std.specs.Prelude.{◌≡◌, ◌≤◌, ◌<◌, true};
-ghost use Rattle.ig_space.specs.Geometry.{count, geometry_fits};
-ghost use Rattle.ig_space.specs.Grid.{IsBox, IsGrid, IsWithin, size_of, space_of};
+ghost use Rattle.ig_space.specs.Geometry.{geometry_fits};
+ghost use Rattle.ig_space.specs.Grid.{IsGrid, IsWithin, space_of};
 ghost use Rattle.ig_record.specs.Stage.{greatest, hull_voxels, most_tasks, task_box, task_count, task_grid};
 ghost use Rattle.ig_record.specs.Sound.{is_sound};
 ghost use Rattle.ig_record.specs.SoundFacts.{HasSides};
 
 use crate::Stage;
+use crate::hulls::greatest_along;
 use ig_space::{Box3, Grid};
-
-/// How many voxels the box has.
-fn voxels(area: Box3) -> u128
-    requires { IsBox area }
-    ensures { result ≡ count (size_of area) }
-{
-    let (lo, hi) = (area.lo, area.hi);
-    u128::from(hi.x - lo.x) * (u128::from(hi.y - lo.y) * u128::from(hi.z - lo.z))
-}
 
 impl Stage {
     /// The boxes of its tasks, as a grid.
@@ -30,17 +22,6 @@ impl Stage {
             space: self.source.geometry.chunks().space,
             step: self.shape,
         }
-    }
-
-    /// How many voxels the chunks have that meet the box of a task.
-    fn hull_voxels(&self, task: u64) -> u128
-        requires fits { geometry_fits self.now.source.geometry ≡ true }
-        requires sides { HasSides self.now.shape }
-        requires below { task < task_count self.now }
-        ensures { result ≡ hull_voxels self.now task }
-    {
-        let area = self.grid().cell(task);
-        voxels(self.source.geometry.chunks().hull(area).space)
     }
 
     /// How many tasks it has, also where these are too many for a sound stage.
@@ -59,11 +40,12 @@ impl Stage {
         requires few { task_count self.now ≤ most_tasks }
         ensures { result ≡ greatest (hull_voxels self.now) (task_count self.now) }
     {
-        let mut greatest = 0;
-        for task in 0..self.task_count() as u64 {
-            greatest = greatest.max(self.hull_voxels(task));
-        }
-        greatest
+        let (size, shape) = (self.source.geometry.size, self.shape);
+        let chunk = self.source.geometry.chunk;
+        let x = greatest_along(size.x, shape.x, chunk.x);
+        let y = greatest_along(size.y, shape.y, chunk.y);
+        let z = greatest_along(size.z, shape.z, chunk.z);
+        u128::from(x) * (u128::from(y) * u128::from(z))
     }
 
     /// How many tasks it has.

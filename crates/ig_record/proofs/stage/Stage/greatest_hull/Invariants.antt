@@ -1,7 +1,0 @@
--- So far the greatest of the first tasks was found.
-use Rattle.std.proofs.Common.{◌≡◌}
-use Rattle.ig_record.specs.Stage.{greatest, hull_voxels}
-use Rattle.ig_record.proofs.stage.Stage.greatest_hull.Given as goal
-
-abbrev pub invariant-loop-task : goal.invariant-loop-task
-invariant-loop-task l = l.greatest ≡ greatest (hull_voxels l.self) l.task
