@@ -15,7 +15,6 @@ use posix_store::PosixStore;
 use std::alloc::Global;
 use std::env::Env;
 use std::io::{ErrorKind, writer};
-use std::os::fd::IntoRawFd;
 use std::process::ExitCode;
 use std::random::RandomSource;
 use std::rt::Files;
@@ -49,7 +48,6 @@ fn keep_freed(alloc: Global) {
 fn run<R, E: Sink>(rt: &R, words: &Vec<String>, err: &mut E) -> io::Result<u8>
 where
     R: Files + Clock + RandomSource + Print + Threads + AllocGlobal + Clone + Drop + Sync,
-    R::File: IntoRawFd,
 {
     keep_freed(rt.alloc());
     let rule = rule_of(rt.alloc(), words)?;

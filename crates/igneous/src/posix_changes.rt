@@ -4,9 +4,8 @@ ghost use Rattle.std.specs.IoError.{error_kind};
 use crate::posix_files::place;
 use crate::temp_name::temp_name;
 use ig_store::Path;
-use std::fs::File;
+use std::fs::{File, OpenFile};
 use std::io::{ErrorKind, Write};
-use std::os::fd::IntoRawFd;
 use std::rt::Files;
 use std::{fs, io};
 use uuid::Uuid;
@@ -30,10 +29,17 @@ fn create_new<F: Files>(rt: &F, place: &str) -> io::Result<F::File> {
     }
 }
 
-/// Closes the file, and hands on the system's answer: there are file systems that write, and find their disk full, only then.
-pub fn close<H: IntoRawFd>(file: H) -> io::Result<()> {
-    if libc::close(file.into_raw_fd()) < 0 {
-        return Err(io::Error::from(ErrorKind::Other));
+/// Whether others act on the text of the file: the info of a layer, the record of a stage and its seal.
+fn is_acted_on(place: &str) -> bool {
+    place.ends_with("/info") || place.contains("/stages/") || place.contains("/seals/")
+}
+
+/// Writes the new file's bytes. A file on whose text others act is given to the disk: there are file systems that write, and find their
+/// disk full, only later (NFS, SMB, FUSE).
+fn fill<F: OpenFile + Write>(file: &mut F, place: &str, bytes: &[u8]) -> io::Result<()> {
+    file.write_all(bytes)?;
+    if is_acted_on(place) {
+        file.sync_data()?;
     }
     Ok(())
 }
@@ -80,12 +86,9 @@ fn fill_and_move<F: Files>(
     from: &str,
     to: &str,
     bytes: &[u8],
-) -> io::Result<()>
-where
-    F::File: IntoRawFd,
-{
-    file.write_all(bytes)?;
-    close(file)?;
+) -> io::Result<()> {
+    fill(&mut file, to, bytes)?;
+    drop(file);
     if move_file(rt, from, to)? {
         Ok(())
     } else {
@@ -101,10 +104,7 @@ pub fn replace_file<F: Files + AllocGlobal>(
     id: &Uuid,
     path: &Path,
     bytes: &[u8],
-) -> io::Result<()>
-where
-    F::File: IntoRawFd,
-{
+) -> io::Result<()> {
     let alloc = rt.alloc();
     let temp = place(alloc, root, temp_name(alloc, id)?.as_str())?;
     let target = place(alloc, root, path.as_str())?;

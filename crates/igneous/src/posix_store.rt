@@ -14,7 +14,6 @@ use rand_chacha::ChaCha20Rng;
 use rand_core::SeedableRng;
 use std::io;
 use std::io::ErrorKind;
-use std::os::fd::IntoRawFd;
 use std::random::RandomSource;
 use std::rt::Files;
 use uuid::Uuid;
@@ -101,10 +100,7 @@ impl<F: Files + AllocGlobal + Clone + Drop, R: Rule + Drop> PosixStore<F, R> {
     }
 }
 
-impl<F: Files + AllocGlobal + Clone + Drop, R: Rule + Drop> Store<R> for PosixStore<F, R>
-where
-    F::File: IntoRawFd,
-{
+impl<F: Files + AllocGlobal + Clone + Drop, R: Rule + Drop> Store<R> for PosixStore<F, R> {
     ghost rule = { λ store. store.rule };
 
     ghost faults = { λ store. store.faults };
