@@ -5,7 +5,7 @@ ghost use Rattle.ig_space.specs.Geometry.{count, is_wide, padded, padded_to};
 use crate::numbers::{number, point};
 use crate::{Told, World};
 use ig_cseg::{CsegFault, EncodeError, decode, encode};
-use ig_space::{Bytes, Point, RawError, Volume, Width, raw_decode, raw_encode};
+use ig_space::{Bytes, Point, RawError, TryClone, Volume, Width, raw_decode, raw_encode};
 use std::alloc::{AllocError, Global};
 
 /// The size of a volume, the width of its labels and the size of a block.
@@ -172,7 +172,7 @@ pub(crate) fn ask_decode(
         return Ok(None);
     };
     let mut told = Told::new(alloc, answer);
-    say_labels(alloc, &mut told, &volume)?;
+    say_labels(alloc, &mut told, &volume.copy()?)?;
     Ok(Some(told))
 }
 

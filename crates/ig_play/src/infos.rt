@@ -2,7 +2,7 @@
 use crate::numbers::point_text;
 use crate::{Told, World};
 use ig_info::{Info, InfoError, Scale, dest_info, read_info, write_info};
-use ig_space::{Encoding, Width};
+use ig_space::{Encoding, TryClone, Width};
 use std::alloc::{AllocError, Global};
 
 fn refusal(alloc: Global, error: &InfoError) -> Result<String, AllocError> {
@@ -77,7 +77,7 @@ pub(crate) fn info_at(world: &World, path: &str) -> Result<Result<Info, Told>, A
         return Ok(Err(Told::of(world.alloc, "no file")?));
     };
     match read_info(world.alloc, bytes.as_bytes()) {
-        Ok(info) => Ok(Ok(info)),
+        Ok(info) => Ok(Ok(info.copy()?)),
         Err(e) => Ok(Err(Told::new(world.alloc, refusal(world.alloc, &e)?))),
     }
 }
@@ -112,7 +112,7 @@ pub(crate) fn ask_dest(
     let Some(scale) = info.scale(mip) else {
         return Told::of(world.alloc, "no scale");
     };
-    match dest_info(world.alloc, scale) {
+    match dest_info(world.alloc, &scale.copy()?) {
         Ok(made) => write(world, &made, to),
         Err(e) => Ok(Told::new(world.alloc, refusal(world.alloc, &e)?)),
     }

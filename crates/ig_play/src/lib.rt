@@ -13,6 +13,7 @@ mod names;
 mod numbers;
 mod reader;
 mod stages;
+mod store;
 mod told;
 mod world;
 

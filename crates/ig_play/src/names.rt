@@ -5,7 +5,7 @@ use ig_queue::{
     QueueName, candidates, parse_queue_name, parse_stage_name, parse_task_name, queue_name,
     stage_name, task_name,
 };
-use ig_space::{Names, Path, Text, chunk_name, parse_chunk_name};
+use ig_space::{Names, Path, Text, TryClone, chunk_name, parse_chunk_name};
 use std::alloc::{AllocError, Global};
 
 /// What a queue name says.
@@ -72,6 +72,17 @@ pub(crate) fn ask_path(alloc: Global, text: &str) -> Result<Told, AllocError> {
         Some(path) => Ok(Told::new(alloc, format!(in alloc; "{}", path.as_str())?)),
         None => Told::of(alloc, "none"),
     }
+}
+
+/// `join DIR NAME`.
+pub(crate) fn ask_join(alloc: Global, dir: &str, name: &str) -> Result<Option<Told>, AllocError> {
+    let (Some(dir), Some(name)) = (Path::new(alloc, dir)?, Path::new(alloc, name)?) else {
+        return Ok(None);
+    };
+    Ok(Some(match dir.copy()?.join(&name)? {
+        Some(path) => Told::new(alloc, format!(in alloc; "{}", path.as_str())?),
+        None => Told::of(alloc, "too long")?,
+    }))
 }
 
 /// `candidates NOW NAME..`: the names that may be leased at this second, in order.

@@ -3,10 +3,12 @@ use crate::codecs::{ask_decode, ask_encode, labels_of, read_form};
 use crate::infos::{ask_dest, ask_read, ask_write};
 use crate::moves::ask_move;
 use crate::names::{
-    ask_candidates, ask_chunk_name, ask_path, ask_queue_name, ask_stage_name, ask_task_name,
+    ask_candidates, ask_chunk_name, ask_join, ask_path, ask_queue_name, ask_stage_name,
+    ask_task_name,
 };
 use crate::numbers::small;
 use crate::stages::{ask_read_task, ask_stage, ask_task, ask_write_task};
+use crate::store::ask_store;
 use crate::{Told, World, stages};
 use std::alloc::{AllocError, Global};
 
@@ -91,6 +93,11 @@ pub fn ask(world: &mut World, words: &[&str]) -> Result<Option<Told>, AllocError
         "decode" | "encode" => ask_codec(world, words),
         "lease" | "complete" | "bury" => match rest {
             [queue, name] => ask_move(world, word, queue, name),
+            _ => Ok(None),
+        },
+        "read" | "names" | "has" | "put" | "shift" | "remove" => ask_store(world, words),
+        "join" => match rest {
+            [dir, name] => ask_join(world.alloc, dir, name),
             _ => Ok(None),
         },
         "candidates" => Ok(Some(ask_candidates(world.alloc, world.second, rest)?)),

@@ -8,7 +8,7 @@ use ig_record::{
     RecordError, Stage, dirs, inputs, kind_word, paths, read_stage, read_task, removed,
     write_stage, write_task,
 };
-use ig_space::{Paths, TaskId};
+use ig_space::{Paths, TaskId, TryClone};
 use std::alloc::{AllocError, Global};
 
 fn refusal(alloc: Global, error: &RecordError) -> Result<Told, AllocError> {
@@ -29,7 +29,7 @@ fn stage_at(world: &World, number: u32, path: &str) -> Result<Result<Stage, Told
         return Ok(Err(Told::of(world.alloc, "no file")?));
     };
     match read_stage(world.alloc, number, bytes.as_bytes()) {
-        Ok(stage) => Ok(Ok(stage)),
+        Ok(stage) => Ok(Ok(stage.copy()?)),
         Err(e) => Ok(Err(refusal(world.alloc, &e)?)),
     }
 }

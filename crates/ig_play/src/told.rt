@@ -1,3 +1,4 @@
+use ig_space::TryClone;
 use ig_store::{Act, Step, Steps};
 use std::alloc::{AllocError, Global};
 
@@ -56,7 +57,7 @@ fn step_text(alloc: Global, step: &Step) -> Result<String, AllocError> {
 /// The steps, each in a line.
 pub(crate) fn steps_text(alloc: Global, steps: &Steps) -> Result<String, AllocError> {
     let mut text = String::new(alloc);
-    for step in steps.as_slice() {
+    for step in steps.copy()?.as_slice() {
         text.push_str(step_text(alloc, step)?.as_str())?;
     }
     Ok(text)

@@ -27,6 +27,16 @@ fn look_for_nothing(player: &Player, path: &str) -> Result<(), Fault> {
     }
 }
 
+/// `finds PATH TEXT`: a file with this text, or none where the text is empty.
+fn find(player: &Player, rest: &str) -> Result<(), Fault> {
+    let (path, text) = split(rest);
+    if text.is_empty() {
+        return look_for_nothing(player, path);
+    }
+    let rest = format!(in player.alloc; "{path} text {text}")?;
+    look_at_file(player, rest.as_str())
+}
+
 /// `only DIR NAME..`: these files lie directly in the directory, and no others.
 fn look_into(player: &Player, rest: &str) -> Result<(), Fault> {
     let alloc = player.alloc;
@@ -102,6 +112,7 @@ pub fn look(player: &mut Player, word: &str, rest: &str) -> Result<(), Fault> {
     match word {
         "holds" => look_at_file(player, rest),
         "gone" => look_for_nothing(player, rest),
+        "finds" => find(player, rest),
         "only" => look_into(player, rest),
         "same" => look_beside(player, rest),
         "changes" => look_at_changes(player, rest),

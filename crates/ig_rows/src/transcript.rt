@@ -19,7 +19,9 @@ fn play_line<R: Threads + Sync>(rt: &R, player: &mut Player, line: &str) -> Resu
         "$" | "?" | "start" | "drop" | "step" | "run" | "wait" => act(rt, player, word, rest),
         ">" | "!" | "~" | "cut" => expect(player, word, rest),
         "=" => close(player, rest),
-        "holds" | "gone" | "only" | "same" | "changes" | "shows" => look(player, word, rest),
+        "holds" | "gone" | "finds" | "only" | "same" | "changes" | "shows" => look(
+            player, word, rest,
+        ),
         _ => Err(unreadable(player.alloc, "an unknown word")),
     }
 }
