@@ -2,12 +2,16 @@
 """Eight worker processes over one queue of 512 tasks, killed or stalled at random moments, and started again till all tasks
 are done.
 
-Usage: tests/killed_workers.py PROGRAM [KILLS [SEED]]
+Usage: tests/killed_workers.py PROGRAM [KILLS [SEED ..]]
 
-The new layer must then hold the same files as one that a single process copied. Leases are of one second, and a stalled
-worker goes on after more than that, so that its task is done again meanwhile. Prints how many workers were killed and how many
-stalled, and how many tasks were late, or were told of more than once. It ends with status 1 where the layers differ, or where the
-queue does not come to its end in time.
+For each seed, 1 and 2 where none is given, the new layer must then hold the same files as one that a single process copied. Leases are
+of one second, and a stalled worker goes on after more than that, so that its task is done again meanwhile. Prints how many workers were
+killed and how many stalled, and how many tasks were late, or were told of more than once.
+
+Each worker has to end as its fate allows: one that was killed by that signal, or with a status that it had just ended with; any other
+one with status 0 or 3, since tasks are at most waited for. It ends with status 1 where a worker ended otherwise, as by a signal that was
+not sent, where the layers differ, where the queue does not come to its end in time, and where over all seeds no worker was killed,
+none stalled or no task was late, so that nothing was tried.
 """
 import os
 import random
@@ -25,6 +29,9 @@ CELL = 24  # voxels on each axis of a cell of one label
 STALLS = 16
 STALL_SECONDS = 1.5
 MOST_SECONDS = 100
+SEEDS = (1, 2)
+FINISHED, WAITING = 0, 3
+KILLED = -signal.SIGKILL
 
 
 def write_layer(folder, rng):
@@ -82,64 +89,126 @@ def kill(worker):
     worker.wait()
 
 
+class Workers:
+    """The workers that were started, and what became of them."""
+
+    def __init__(self, program, out):
+        self.program, self.out = program, out
+        self.running = [start(program, out) for _ in range(WORKERS)]
+        self.stalled = []  # until when, and which
+        self.killed = 0
+        self.finished = False
+        self.wrong = []  # statuses that no fate allows
+
+    def ended(self, worker, allowed=(FINISHED, WAITING)):
+        """Takes the status of a worker that has ended."""
+        status = worker.returncode
+        self.finished = self.finished or status == FINISHED
+        if status not in allowed:
+            self.wrong.append(status)
+
+    def kill_one(self, place):
+        kill(self.running[place])
+        self.killed += 1
+        self.ended(self.running[place], (KILLED, FINISHED, WAITING))
+        self.running[place] = start(self.program, self.out)
+
+    def stall_one(self, place):
+        self.running[place].send_signal(signal.SIGSTOP)
+        self.stalled.append((time.time() + STALL_SECONDS, self.running[place]))
+        self.running[place] = start(self.program, self.out)
+
+    def look(self):
+        """Wakes those that have stalled for long, and starts others for those that have ended."""
+        for until, worker in self.stalled:
+            if time.time() > until:
+                worker.send_signal(signal.SIGCONT)
+        for place, worker in enumerate(self.running):
+            if worker.poll() is not None:
+                self.ended(worker)
+                self.running[place] = start(self.program, self.out)
+
+    def wait(self):
+        """Wakes all that stall, and waits for every worker."""
+        for _, worker in self.stalled:
+            worker.send_signal(signal.SIGCONT)
+        for worker in [*self.running, *(worker for _, worker in self.stalled)]:
+            worker.wait(timeout=MOST_SECONDS)
+            self.ended(worker)
+
+    def stop(self):
+        for worker in [*self.running, *(worker for _, worker in self.stalled)]:
+            kill(worker)
+
+
 def work(program, kills, rng, out):
-    """Runs workers till one of them has found all tasks done. Gives how many were killed, and how many stalled."""
-    workers = [start(program, out) for _ in range(WORKERS)]
-    killed, begun, stalled, statuses = 0, time.time(), [], []
+    """Runs workers till one of them has found all tasks done, and gives what became of them."""
+    workers, begun = Workers(program, out), time.time()
     try:
-        while 0 not in statuses:
+        while not workers.finished:
             if time.time() - begun > MOST_SECONDS:
                 sys.exit("the queue has not come to its end")
             time.sleep(rng.uniform(0, 0.002))
             place = rng.randrange(WORKERS)
-            if workers[place].poll() is None and len(stalled) < STALLS and rng.random() < 0.2:
-                workers[place].send_signal(signal.SIGSTOP)
-                stalled.append((time.time() + STALL_SECONDS, workers[place]))
-                workers[place] = start(program, out)
-            elif workers[place].poll() is None and killed < kills:
-                kill(workers[place])
-                killed += 1
-            for until, worker in stalled:
-                if time.time() > until:
-                    worker.send_signal(signal.SIGCONT)
-            for place, worker in enumerate(workers):
-                if worker.poll() is not None:
-                    statuses.append(worker.returncode)
-                    workers[place] = start(program, out)
-        for _, worker in stalled:
-            worker.send_signal(signal.SIGCONT)
-            worker.wait(timeout=MOST_SECONDS)
-        return killed, len(stalled)
+            if workers.running[place].poll() is None:
+                if len(workers.stalled) < STALLS and rng.random() < 0.2:
+                    workers.stall_one(place)
+                elif workers.killed < kills:
+                    workers.kill_one(place)
+            workers.look()
+        workers.wait()
+        return workers
     finally:
-        for worker in workers + [worker for _, worker in stalled]:
-            kill(worker)
+        workers.stop()
+
+
+def copy_by_one(program):
+    options = ["--shape", f"{CHUNK},{CHUNK},{CHUNK}", "--encoding", "compressed_segmentation"]
+    print(run(program, "image", "xfer", "seg", "local", *options))
+    print(run(program, "image", "xfer", "seg", "copy", *options, "--queue", "fq://q"))
+
+
+def run_seed(program, kills, seed):
+    """Makes a layer and a queue of its copy in this folder, and runs workers on it. Gives what became of them, how many tasks were late,
+    and whether the copy is whole."""
+    rng = random.Random(seed)
+    write_layer("seg", rng)
+    copy_by_one(program)
+    with open("lines", "wb") as out:
+        workers = work(program, kills, rng, out)
+    with open("lines") as file:
+        said = [line.split() for line in file]
+    tasks = [tuple(line[1:3]) for line in said if line and line[0] in ("done", "late", "missing", "dead")]
+    late = sum(1 for line in said if line and line[0] == "late")
+    again = len(tasks) - len(set(tasks))
+    same, done = files_of("local") == files_of("copy"), len(os.listdir("q/done"))
+    print(
+        f"seed {seed}: killed {workers.killed} stalled {len(workers.stalled)} late {late} told again {again} done names {done} equal {same}"
+        f" wrong statuses {workers.wrong}",
+        flush=True,
+    )
+    return workers, late, same and done == SIDE**3
 
 
 def main():
     program = os.path.abspath(sys.argv[1])
     kills = int(sys.argv[2]) if len(sys.argv) > 2 else 200
-    rng = random.Random(int(sys.argv[3]) if len(sys.argv) > 3 else 1)
-    folder = tempfile.mkdtemp(prefix="killed-workers-")
-    try:
-        os.chdir(folder)
-        write_layer("seg", rng)
-        options = ["--shape", f"{CHUNK},{CHUNK},{CHUNK}", "--encoding", "compressed_segmentation"]
-        print(run(program, "image", "xfer", "seg", "local", *options))
-        print(run(program, "image", "xfer", "seg", "copy", *options, "--queue", "fq://q"))
-        with open("lines", "wb") as out:
-            killed, stalled = work(program, kills, rng, out)
-        with open("lines") as file:
-            said = [line.split() for line in file]
-        tasks = [tuple(line[1:3]) for line in said if line and line[0] in ("done", "late", "missing", "dead")]
-        late = sum(1 for line in said if line and line[0] == "late")
-        again = len(tasks) - len(set(tasks))
-        same = files_of("local") == files_of("copy")
-        print(f"killed {killed} stalled {stalled} late {late} told again {again} done names {len(os.listdir('q/done'))} equal {same}")
-        if not same or len(os.listdir("q/done")) != SIDE**3:
-            sys.exit(1)
-    finally:
-        os.chdir("/")
-        shutil.rmtree(folder, ignore_errors=True)
+    seeds = [int(word) for word in sys.argv[3:]] or SEEDS
+    killed, stalled, late, well = 0, 0, 0, True
+    for seed in seeds:
+        folder = tempfile.mkdtemp(prefix="killed-workers-")
+        try:
+            os.chdir(folder)
+            workers, late_here, whole = run_seed(program, kills, seed)
+        finally:
+            os.chdir("/")
+            shutil.rmtree(folder, ignore_errors=True)
+        killed, stalled, late = killed + workers.killed, stalled + len(workers.stalled), late + late_here
+        well = well and whole and not workers.wrong
+    if min(killed, stalled, late) == 0:
+        print(f"nothing was tried: killed {killed}, stalled {stalled}, late {late}")
+        well = False
+    sys.exit(0 if well else 1)
 
 
 if __name__ == "__main__":

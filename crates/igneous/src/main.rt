@@ -7,6 +7,8 @@ mod posix_store;
 mod std_sink;
 mod system_clock;
 mod temp_name;
+#[cfg(test)]
+mod tests;
 mod whole;
 
 use ig_cli::{igneous, rule_of};

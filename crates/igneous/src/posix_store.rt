@@ -23,7 +23,7 @@ use uuid::Uuid;
 pub struct PosixStore<F, R> {
     rt: F,
     /// What stands before each path; empty in the program.
-    root: String,
+    pub(crate) root: String,
     ids: ChaCha20Rng,
     pub rule: R,
     pub faults: u64,
