@@ -5,7 +5,7 @@ Usage: tests/hostile_files.py PROGRAM
 
 Each case makes a layer of four chunks in a new folder, and puts something else in the place of a file: a FIFO, a link to an endless
 device, a link that dangles or runs in a circle, a directory, a socket, names that are no text, a folder that may not be entered, a full
-file system, a disk that is found full when a file is closed. Then it runs commands, and compares each one's standard output, standard
+file system, a disk that is found full when a file is given to it. Then it runs commands, and compares each one's standard output, standard
 error and status with those that are expected. What a command left is looked at too. Where this runs as root, the program runs as nobody,
 since root may do all; a case that can't be set up here is named, with the word `skipped`. Ends with status 1 where any case differs.
 """
@@ -392,42 +392,39 @@ def full_case(program, name):
 
 
 def traced(*how):
-    """Words that run a program under `strace`, which notes what it opens and closes."""
-    return ["strace", "-qq", "-o", "trace", "-e", "trace=openat,close", *how]
+    """Words that run a program under `strace`, which notes what is given to the disk."""
+    return ["strace", "-qq", "-o", "trace", "-e", "trace=fdatasync", *how]
 
 
-def closes_of_new_files():
-    """Of the closes that the last traced run made, the places of those of temporary files."""
-    places, closed, opened = [], 0, set()
+def synchronised():
+    """How many files the last traced run gave to the disk."""
     with open("trace") as lines:
-        for line in lines:
-            number = line.rsplit("= ", 1)[-1].split()[0]
-            if line.startswith("openat(") and ".ig-tmp/" in line:
-                opened.add(number)
-            elif line.startswith("close("):
-                closed += 1
-                number = line[len("close(") :].split(")")[0]
-                if number in opened:
-                    places.append(closed)
-                    opened.discard(number)
-    return places
+        return sum(line.startswith("fdatasync(") for line in lines)
 
 
-def close_case(program, name):
-    """A disk that is found full when a file is closed, as `strace` plays it: that file must not be called done."""
+def clean():
+    """Takes away what a command made."""
+    for made in ("copy", "q"):
+        shutil.rmtree(made, ignore_errors=True)
+
+
+def disk_case(program, name):
+    """A disk that is found full when a file is given to it, as `strace` plays it: that file must not be called done. The new info of a
+    local copy is such a file, and of a making the record, the info and the seal."""
     if shutil.which("strace") is None:
         raise Skipped("strace is missing")
-    if run(program, COPY, traced())[2] != 0:
-        raise Skipped("strace may not trace")
-    places, wrong = closes_of_new_files(), 0
-    if len(places) != CHUNKS + 1:
-        print(f"{name}: {len(places)} files were made and closed, not {CHUNKS + 1}")
-        wrong += 1
-    for place in places:
-        shutil.rmtree("copy")
-        got = run(program, COPY, traced("-e", f"inject=close:error=EDQUOT:when={place}"))
-        wrong += differs(f"{name}, close {place}", COPY, ("", FAULT, 6), got) + left_over(name)
-        os.makedirs("copy", exist_ok=True)
+    wrong = 0
+    for words, count in ((COPY, 1), (MAKE, 3)):
+        if run(program, words, traced())[2] != 0:
+            raise Skipped("strace may not trace")
+        if synchronised() != count:
+            print(f"{name}: {' '.join(words)}: {synchronised()} files were given to the disk, not {count}")
+            wrong += 1
+        clean()
+        for place in range(1, count + 1):
+            got = run(program, words, traced("-e", f"inject=fdatasync:error=EDQUOT:when={place}"))
+            wrong += differs(f"{name}, file {place}", words, ("", FAULT, 6), got) + left_over(name)
+            clean()
     return wrong
 
 
@@ -451,7 +448,7 @@ def all_cases():
     for name, spoil in TARGETS.items():
         cases.append((f"where a copy is made, {name}", lambda p, n, s=spoil: target_case(p, n, s)))
     cases.append(("a full file system", full_case))
-    cases.append(("a disk that is found full at a close", close_case))
+    cases.append(("a disk that is found full later", disk_case))
     return cases
 
 

@@ -1,5 +1,4 @@
 //! The store over real files, each test in a new directory of its own.
-use crate::posix_changes::close;
 use crate::posix_files::place;
 use crate::posix_store::PosixStore;
 use crate::whole::read_whole;
@@ -297,10 +296,4 @@ fn a_file_that_changes_is_refused(rt: HostRuntime) -> Result<(), Fail> {
     }
     assert_eq!(rt; read_whole(rt.alloc(), text, 0)?.len(), 0);
     Ok(())
-}
-
-/// What the system answers to a close is handed on: there is no file of this number.
-#[test]
-fn an_error_at_a_close_is_told(rt: HostRuntime) {
-    assert!(rt; close(-1).is_err());
 }
