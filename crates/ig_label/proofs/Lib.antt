@@ -1,1 +1,4 @@
 mod RunLaws
+mod JoinLaws
+mod ClassLaws
+mod SideLaws

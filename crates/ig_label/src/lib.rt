@@ -3,8 +3,8 @@
 #![tactic(auto)]
 
 mod joining;
-// mod parts;
+mod parts;
 mod rows;
 
-// pub use parts::{Labels, label};
+pub use parts::{Labels, label};
 pub use rows::{Run, Runs, runs_of};
