@@ -1,4 +1,4 @@
 mod RunLaws
 mod JoinLaws
 mod ClassLaws
-mod SideLaws
+mod NumberingLaws
