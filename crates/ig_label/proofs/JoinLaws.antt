@@ -178,7 +178,7 @@ module _ (width plane bound from to : ℕ) (runs : List Run) (old now new : List
       → (j < from) ⊎ (from ≤ j) → (i < from) ⊎ (from ≤ i) → get_or new i 0 ≡ get_or new j 0
   row_told i j li lj l h (inl before) o = next.joined.kept i j li lj (planes.joined.told i j li lj before h)
   row_told i j li lj l h (inr after) (inl before) =
-      let same : (run_at runs i).first / plane ≡ (run_at runs j).first / plane = eqb-true ((run_at runs i).first / plane) ((run_at runs j).first / plane) (and_parts _ _ h).1 in
+      let same = eqb-true ((run_at runs i).first / plane) ((run_at runs j).first / plane) (and_parts (touches width (run_at runs i) (run_at runs j)) (eqb ((run_at runs i).first / plane) ((run_at runs j).first / plane)) h).1 in
       absurd (omega (arith, plane_before i (planes.before i before), plane_from j after lj, same))
   row_told i j li lj l h (inr after) (inr both) = next.joined.told i j both after li lj (inr l) (and_parts _ _ h).0
 

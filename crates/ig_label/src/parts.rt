@@ -43,17 +43,33 @@ pub fn label(alloc: Global, volume: &Volume) -> Result<Labels, AllocError>
     ensures firsts { IfOk result (λ labels. labels.firsts ≡ those_below (is_root (voxel_graph volume.now)) (count volume.now.size)) }
     ensures values { IfOk result (λ labels. labels.values ≡ map (label_at volume.now) labels.firsts) }
 {
+    if volume.labels().is_empty() {
+        return Ok(Labels {
+            size: volume.size(),
+            local: Locals::new(alloc),
+            firsts: Firsts::new(alloc),
+            values: Values::new(alloc),
+        });
+    }
+    label_some(alloc, volume)
+}
+
+/// The parts of a volume that has voxels.
+fn label_some(alloc: Global, volume: &Volume) -> Result<Labels, AllocError>
+    requires some { 1 ≤ count volume.now.size }
+    ensures size { IfOk result (λ labels. labels.size ≡ volume.now.size) }
+    ensures local { IfOk result (λ labels. labels.local ≡ map (part_of (voxel_graph volume.now)) (range_with_len 0 (count volume.now.size))) }
+    ensures firsts { IfOk result (λ labels. labels.firsts ≡ those_below (is_root (voxel_graph volume.now)) (count volume.now.size)) }
+    ensures values { IfOk result (λ labels. labels.values ≡ map (label_at volume.now) labels.firsts) }
+{
     let size = volume.size();
-    let voxels = volume.labels().len();
+    let runs = runs_of(alloc, volume)?;
+    let mut parts = classes_of(alloc, runs.as_slice(), size)?;
     let mut firsts = Firsts::new(alloc);
     let mut values = Values::new(alloc);
-    let mut local = vec![in alloc; 0; voxels]?;
-    if voxels != 0 {
-        let runs = runs_of(alloc, volume)?;
-        let mut parts = classes_of(alloc, runs.as_slice(), size)?;
-        number(runs.as_slice(), parts.as_mut_slice(), &mut firsts, &mut values)?;
-        paint(runs.as_slice(), parts.as_slice(), local.as_mut_slice());
-    }
+    number(runs.as_slice(), &mut parts, &mut firsts, &mut values)?;
+    let mut local = vec![in alloc; 0; volume.labels().len()]?;
+    paint(runs.as_slice(), &parts, &mut local);
     Ok(Labels {
         size,
         local: Locals::from_vec(local),
