@@ -123,3 +123,18 @@ module _ (v : Voxels) (runs : List Run) (has : HasRuns v runs) (classes : List �
     all-local =
         fill_by_all (part_of (voxel_graph v)) local (count v.size) 0 (painted.size ∙ length-replicate (count v.size) 0)
         (λ p l. local_at p l (cases_Bool (is_in (voxel_graph v) p)))
+
+-- the same for lists that are these
+module _ (v : Voxels) (runs : List Run) (has : HasRuns v runs) (classes : List ℕ) (are : AreClasses (run_graph v.size runs) classes) where
+  pub local-is : (rs rs' : List Run) (cs numbers parts start local : List ℕ) → rs ≡ runs → rs' ≡ runs → cs ≡ classes
+      → ((i : ℕ) → i < length rs → get_or numbers i 0 ≡ number_in cs i) → parts ≡ numbers → start ≡ replicate (count v.size) 0
+      → ArePainted rs' parts (length rs') start local → local ≡ map (part_of (voxel_graph v)) (range_with_len 0 (count v.size))
+  local-is rs rs' cs numbers parts start local er er' ec h ep es painted =
+      all-local v runs has classes are parts local
+      (λ i l. ap (λ ps. get_or ps i 0) ep ∙ h i (subst (λ n. i < n) (ap length (sym er)) l) ∙ ap (λ xs. number_in xs i) ec)
+      (subst (λ s. ArePainted runs parts (length runs) s local) es (subst (λ (xs : List Run). ArePainted xs parts (length xs) start local) er' painted))
+
+  pub values-are : (rs : List Run) (cs : List ℕ) → rs ≡ runs → cs ≡ classes → values_in rs cs (length rs) ≡ map (label_at v) (firsts_in rs cs (length rs))
+  values-are rs cs er ec =
+      subst (λ (xs : List Run). values_in xs cs (length xs) ≡ map (label_at v) (firsts_in xs cs (length xs))) (sym er)
+      (subst (λ xs. values_in runs xs (length runs) ≡ map (label_at v) (firsts_in runs xs (length runs))) (sym ec) (all-values v runs has classes are))

@@ -198,3 +198,16 @@ module _ (width : ℕ) (labels : List ℕ) (first from place label : ℕ) (runs 
       subst (AreRunsTo width labels to) (sym er)
       (subst (λ t. AreRunsTo width labels t (with_run runs from t label)) ep
       (stretch_more width labels first from place label (stretch-at (omega arith) (inl (ep ∙ et))) runs is.so_far))
+
+-- ---- sides
+product-some : (a b : ℕ) → 1 ≤ a * b → (1 ≤ a) × (1 ≤ b)
+product-some zero b h = absurd (omega arith)
+product-some (suc a) zero h = absurd (omega arith)
+product-some (suc a) (suc b) h = (omega arith, omega arith)
+
+-- a box with voxels has sides
+pub sides-some : (x y z : ℕ) → 1 ≤ x * (y * z) → (1 ≤ x) × (1 ≤ y)
+sides-some x y z h =
+    let p = product-some x (y * z) h in
+    let q = product-some y z p.1 in
+    (p.0, q.0)
