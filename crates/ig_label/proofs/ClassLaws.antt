@@ -37,8 +37,8 @@ face-above : (size : Point) (a b : Run) → touches (size.x * size.y) a b ≡ tr
 face-above size a b h = or_second (touches_row size.x (size.x * size.y) a b) (touches (size.x * size.y) a b) h
 
 module _ (size : Point) (runs : List Run) (end last : ℕ) (mid new : List ℕ) (are : AreAscending runs) (within : (i : ℕ) → i < length runs → end_of (run_at runs i) ≤ end)
-  (after : last < length runs → end ≤ (run_at runs last).first)
-  (faces : HasJoined runs (size.x * size.y) end 0 0 last (each_alone (length runs)) mid) (rows : HasJoinedTo (touches_row size.x (size.x * size.y)) (length runs) runs mid new) where
+    (after : last < length runs → end ≤ (run_at runs last).first)
+    (faces : HasJoined runs (size.x * size.y) end 0 0 last (each_alone (length runs)) mid) (rows : HasJoinedTo (touches_row size.x (size.x * size.y)) (length runs) runs mid new) where
   all_before : (last < length runs) ⊎ (length runs ≤ last) → (j : ℕ) → j < length runs → j < last
   all_before (inl l) j lj = absurd (omega (arith, after l, within last l, are.some last l))
   all_before (inr l) j lj = omega arith

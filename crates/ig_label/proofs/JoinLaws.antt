@@ -62,7 +62,7 @@ module _ (runs : List Run) (shift bound from low high : ℕ) (old now : List ℕ
 
 -- ---- a place goes on
 module _ (runs : List Run) (shift bound from low high : ℕ) (old new : List ℕ) (are : AreAscending runs) (pair : IsPair runs bound from low high)
-  (is : HasJoinedPair runs shift bound from low high old new) where
+    (is : HasJoinedPair runs shift bound from low high old new) where
   low_told : end_of (run_at runs low) + shift < end_of (run_at runs high) → (i j : ℕ) → from ≤ i → from ≤ j → i < length runs → j < length runs
       → touches shift (run_at runs i) (run_at runs j) ≡ true → (i ≡ low) ⊎ (i ≡ low → ⊥) → (j ≡ high) ⊎ ((j < high) ⊎ (high < j)) → (i < low + 1) ⊎ (j < high) → get_or new i 0 ≡ get_or new j 0
   low_told less i j fi fj li lj h (inl ei) (inl ej) o =
@@ -158,7 +158,7 @@ no_planes width plane runs old size = record {
 }
 
 module _ (width plane bound from to : ℕ) (runs : List Run) (old now new : List ℕ) (some : 1 ≤ plane) (are : AreAscending runs)
-  (planes : ArePlanes width plane bound from runs old now) (next : IsPlane width (bound + plane) from to runs now new) where
+    (planes : ArePlanes width plane bound from runs old now) (next : IsPlane width (bound + plane) from to runs now new) where
   from_at : (i : ℕ) → from ≤ i → i < length runs → bound ≤ (run_at runs i).first
   from_at i low l = by_case (cases_eq from i) where
     by_case : (from ≡ i) ⊎ (from ≡ i → ⊥) → bound ≤ (run_at runs i).first

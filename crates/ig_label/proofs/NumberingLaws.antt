@@ -38,7 +38,7 @@ module _ (runs : List Run) (old new firsts values : List ℕ) (n : ℕ) (least :
       let passes : is_first old n ≡ true = eq-eqb (get_or old n 0) n at_old in
       let grown : those_below (is_first old) (n + 1) ≡ those_below (is_first old) n ++ n ∷ [] = ap (those_below (is_first old)) one ∙ those_below-pass (is_first old) n passes in
       let number : value ≡ number_in old n =
-          el ∙ ap length ef ∙ length-append firsts ((run_at runs n).first ∷ []) ∙ omega (arith, first_count) ∙ ap (λ c. suc (how_many (is_first old) c)) (sym at_old) in
+      el ∙ ap length ef ∙ length-append firsts ((run_at runs n).first ∷ []) ∙ omega (arith, first_count) ∙ ap (λ c. suc (how_many (is_first old) c)) (sym at_old) in
       record {
         size = length-set new n value ∙ is.size;
         done = below_more _ _ (λ k l. get_or-set_other new n k value 0 (omega arith) ∙ is.done k l) (get_or-set_same new n value 0 long ∙ number);

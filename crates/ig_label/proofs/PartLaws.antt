@@ -109,7 +109,7 @@ module _ (v : Voxels) (runs : List Run) (has : HasRuns v runs) (classes : List �
       ∙ sym (map-twice (first_of runs) (label_at v) (those_below (is_first classes) (length runs)))
 
   module _ (parts : List ℕ) (local : List ℕ) (numbers : (i : ℕ) → i < length runs → get_or parts i 0 ≡ number_in classes i)
-    (painted : ArePainted runs parts (length runs) (replicate (count v.size) 0) local) where
+      (painted : ArePainted runs parts (length runs) (replicate (count v.size) 0) local) where
     local_at : (p : ℕ) → p < count v.size → (is_in (voxel_graph v) p ≡ true) ⊎ (is_in (voxel_graph v) p ≡ false) → get_or local p 0 ≡ part_of (voxel_graph v) p
     local_at p l (inl hp) =
         let below = run-below v runs has p hp in

@@ -84,7 +84,7 @@ module _ (width : ℕ) (labels : List ℕ) (first from to label : ℕ) (stretch 
 
 -- the runs with one more
 module _ (width : ℕ) (labels : List ℕ) (first from to label : ℕ) (stretch : IsStretch width labels first from to label) (runs : List Run) (are : AreRunsTo width labels from runs)
-  (some : label ≡ 0 → ⊥) where
+    (some : label ≡ 0 → ⊥) where
   abbrev grown : List Run
   grown = runs ++ one_run from to label ∷ []
 
@@ -174,9 +174,9 @@ module _ (width : ℕ) (labels : List ℕ) (first from place label : ℕ) (runs 
         same = λ p low high. by_case p low high (cases_eq p place);
         begins = is.begins;
       }))) where
-    by_case : (p : ℕ) → from ≤ p → p < place + 1 → (p ≡ place) ⊎ (p ≡ place → ⊥) → get_or labels p 0 ≡ label
-    by_case p low high (inl e) = ap (λ q. get_or labels q 0) e ∙ here
-    by_case p low high (inr n) = is.same p low (omega arith)
+        by_case : (p : ℕ) → from ≤ p → p < place + 1 → (p ≡ place) ⊎ (p ≡ place → ⊥) → get_or labels p 0 ≡ label
+        by_case p low high (inl e) = ap (λ q. get_or labels q 0) e ∙ here
+        by_case p low high (inr n) = is.same p low (omega arith)
 
   -- another label begins
   pub within-new : (from' label' : ℕ) (runs' : List Run) → place < first + width → (get_or labels place 0 ≡ label → ⊥) → runs' ≡ with_run runs from place label

@@ -17,6 +17,6 @@ returns c =
     let end = size.x * (size.y * size.z) in
     let last = c.join_beside.result in
     let faces : HasJoined runs (size.x * size.y) end 0 0 last (each_alone (length runs)) c.join_beside.new.sets =
-        subst (λ old. HasJoined runs (size.x * size.y) end 0 0 last old c.join_beside.new.sets) c.in_ok-sets.ensures c.join_beside.ensures.joined in
+    subst (λ old. HasJoined runs (size.x * size.y) end 0 0 last old c.join_beside.new.sets) c.in_ok-sets.ensures c.join_beside.ensures.joined in
     subst (AreClasses (run_graph size runs)) (sym c.into_classes.ensures)
     (run-classes size runs end last c.join_beside.new.sets c.join_rows.new.sets c.requires.ascending c.requires.within c.join_beside.ensures.after faces c.join_rows.ensures)

@@ -17,7 +17,7 @@ loop-place-preserved c =
     let v = c.if-class-place in
     let below : l.place < length c.args.classes.now = omega (arith, c.loop-place-test.true, c.requires.length) in
     elim v.branch [
-      then-class-place+in_ok-push+in_ok-push-2 w ↦
+      | then-class-place+in_ok-push+in_ok-push-2 w ↦
           subst (λ classes. AreNumbered c.args.runs.now c.args.classes.now classes v.firsts v.values (l.place + 1)) (sym w.classes-is)
           (number-first c.args.runs.now c.args.classes.now l.classes l.firsts l.values l.place c.requires.least below l.invariant v.firsts v.values w.len.result
           w.if-class-place.true (w.firsts-is ∙ w.in_ok-push.ensures.ok) (w.values-is ∙ w.in_ok-push-2.ensures.ok) (w.len.ensures ∙ ap length (sym w.firsts-is)))

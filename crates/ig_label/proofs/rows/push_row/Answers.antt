@@ -13,7 +13,7 @@ loop-place-preserved c =
     let l = c.loop-place in
     let v = c.if-next-label in
     elim v.branch [
-      then-next-label+in_ok-push_run w ↦
+      | then-next-label+in_ok-push_run w ↦
           within-new c.args.width c.args.labels.now c.args.first l.from l.place l.label l.runs c.requires.row l.invariant v.from v.label v.runs
           c.loop-place-test.true w.if-next-label.true (w.runs-is ∙ w.in_ok-push_run.ensures) w.from-is w.label-is
       | else-next-label w ↦

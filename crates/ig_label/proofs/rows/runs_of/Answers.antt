@@ -8,7 +8,7 @@ row : (c : In-loop-first) → c.loop-first.first < length c.labels-labels.result
 row c below =
     let size = c.args.volume.now.size in
     let whole : length c.labels-labels.result.now ≡ c.size-width.result.x * (size.y * size.z) =
-        ap length c.labels-labels.ensures.labels ∙ c.labels-labels.ensures.length ∙ ap (λ (s : _). s.x * (size.y * size.z)) (sym c.size-width.ensures.size) in
+    ap length c.labels-labels.ensures.labels ∙ c.labels-labels.ensures.length ∙ ap (λ (s : _). s.x * (size.y * size.z)) (sym c.size-width.ensures.size) in
     row-is c.size-width.result.x (size.y * size.z) c.loop-first.invariant.whole.0 c.loop-first.first (length c.labels-labels.result.now) whole c.loop-first.invariant.whole.1 below
 
 pub push_row-requires-clause-row : goal.push_row-requires-clause-row
