@@ -1,8 +1,8 @@
 -- The sets of runs are in the end the classes of the graph of runs.
-use Rattle.std.proofs.Common.{ℕ, zero, suc, ◌+◌, ◌*◌, ◌/◌, ◌<◌, ◌≤◌, ◌≡◌, ◌&&◌, ◌||◌, Bool, true, false, List, length, get_or, refl, sym, ap, ◌∙◌, subst, ◌⊎◌, inl, inr, arith}
+use Rattle.std.proofs.Common.{ℕ, ◌*◌, ◌<◌, ◌≤◌, ◌≡◌, ◌||◌, Bool, true, List, length, get_or, refl, sym, ◌⊎◌, inl, inr, arith}
 use Rattle.std.proofs.lemmas.Bool.{or_cases, cases_lt, and_from, lt-ltb}
 use Rattle.ig_space.specs.declared.point.Point.{Point}
-use Rattle.ig_graph.specs.Graph.{Graph, is_in, steps, IsSymmetric, Joined}
+use Rattle.ig_graph.specs.Graph.{is_in, steps, IsSymmetric}
 use Rattle.ig_graph.specs.PathLaws.{or_first, or_second, steps-is, steps-from, steps-to, steps-adj, in-below, Joined-step}
 use Rattle.ig_graph.specs.Sets.{each_alone, AreJoined, AreClasses}
 use Rattle.ig_graph.specs.SetLaws.{alone-joined, joined-classes}

@@ -1,9 +1,8 @@
 -- Laws on the sets of runs, as runs that touch are put together.
-use Rattle.std.proofs.Common.{ℕ, zero, suc, ◌+◌, ◌-◌, ◌*◌, ◌%◌, ◌/◌, ◌<◌, ◌≤◌, ◌^◌, ◌≡◌, cond, eqb, ltb, ◌&&◌, Bool, true, false, List, length, get_or, refl, sym, ap, ◌∙◌, subst, ◌⊎◌, inl, inr, arith}
-use Rattle.std.proofs.lemmas.Bool.{cases_eq, cases_lt, cases_order, eqb-true, eqb-false, eq-eqb, ltb-true, and_parts, and_from, false≢true}
+use Rattle.std.proofs.Common.{ℕ, zero, suc, ◌+◌, ◌*◌, ◌/◌, ◌<◌, ◌≤◌, ◌≡◌, cond, eqb, Bool, true, false, List, length, get_or, refl, sym, ap, ◌∙◌, subst, ◌⊎◌, inl, inr, arith}
+use Rattle.std.proofs.lemmas.Bool.{cases_eq, cases_lt, cases_order, eqb-true, eq-eqb, ltb-true, and_parts, and_from, false≢true}
 use Rattle.std.proofs.lemmas.Nat.{div_below, le-div}
-use Rattle.ig_graph.specs.Graph.{Graph, IsSymmetric, Joined}
-use Rattle.ig_graph.specs.Sets.{AreJoined, united}
+use Rattle.ig_graph.specs.Sets.{united}
 use Rattle.ig_graph.specs.SetLaws.{length-united, united-same, united-kept, united-joined}
 use Rattle.ig_label.specs.declared.rows.Run.{Run}
 use Rattle.ig_label.specs.Runs.{run_at, end_of}

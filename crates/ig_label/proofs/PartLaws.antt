@@ -1,20 +1,20 @@
 -- The numbers of classes of runs are the parts of voxels.
-use Rattle.std.proofs.Common.{ℕ, zero, suc, ◌+◌, ◌-◌, ◌*◌, ◌<◌, ◌≤◌, ◌^◌, ◌≡◌, ◌≢◌, eqb, ltb, ◌&&◌, Bool, true, false, List, [], ◌∷◌, ◌++◌, length, get_or, map, replicate, refl, sym, ap, ◌∙◌, subst, ◌⊎◌, inl, inr, arith}
+use Rattle.std.proofs.Common.{ℕ, zero, suc, ◌<◌, ◌≤◌, ◌^◌, ◌≡◌, eqb, ◌&&◌, Bool, true, false, List, [], ◌∷◌, ◌++◌, length, get_or, map, replicate, refl, sym, ap, ◌∙◌, subst, ◌⊎◌, inl, inr, arith}
 use Rattle.std.specs.List.{range_with_len}
-use Rattle.std.proofs.lemmas.Bool.{and_parts, and_from, cases_Bool, cases_lt, false≢true, eq-eqb, lt-ltb}
+use Rattle.std.proofs.lemmas.Bool.{cases_Bool, false≢true}
 use Rattle.std.proofs.lemmas.List.{map_push, get_or-replicate, length-replicate}
 use Rattle.std.proofs.lemmas.List.FromFn.{fill_by_all}
 use Rattle.ig_space.specs.Geometry.{count}
 use Rattle.ig_space.specs.Volume.{Voxels}
 use Rattle.ig_graph.specs.Counts.{how_many, those_below}
 use Rattle.ig_graph.specs.CountLaws.{length-those_below, those_below-pass, those_below-fail}
-use Rattle.ig_graph.specs.Graph.{Graph, is_in, least, is_root, part_of}
+use Rattle.ig_graph.specs.Graph.{is_in, least, is_root, part_of}
 use Rattle.ig_graph.specs.Sets.{AreClasses}
 use Rattle.ig_graph.specs.LeastLaws.{least-self, least-below, least-least_same, part-is, part-none}
 use Rattle.ig_graph.specs.QuotientLaws.{firsts_by, part_by}
 use Rattle.ig_label.specs.declared.rows.Run.{Run}
 use Rattle.ig_label.specs.VoxelGraph.{label_at, voxel_graph}
-use Rattle.ig_label.specs.Runs.{run_at, end_of, IsIn, AreRuns}
+use Rattle.ig_label.specs.Runs.{run_at, AreRuns}
 use Rattle.ig_label.specs.RunGraph.{run_graph}
 use Rattle.ig_label.specs.Joining.{AreAscending}
 use Rattle.ig_label.specs.Numbering.{is_first, AreLeast, number_in, firsts_in, values_in}

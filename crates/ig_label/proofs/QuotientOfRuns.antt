@@ -1,19 +1,18 @@
 -- The runs of a box are a quotient of its voxels.
-use Rattle.std.proofs.Common.{ℕ, zero, suc, ◌+◌, ◌-◌, ◌*◌, ◌%◌, ◌/◌, ◌<◌, ◌≤◌, ◌≡◌, ◌≢◌, max, eqb, ltb, leb, ◌&&◌, ◌||◌, Bool, true, false, List, length, get_or, refl, sym, ap, ◌∙◌, subst, ◌⊎◌, inl, inr, arith}
+use Rattle.std.proofs.Common.{ℕ, zero, suc, ◌+◌, ◌-◌, ◌*◌, ◌%◌, ◌/◌, ◌<◌, ◌≤◌, ◌≡◌, ◌≢◌, max, ◌&&◌, Bool, true, List, length, get_or, refl, sym, ap, ◌∙◌, subst, ◌⊎◌, inl, inr, arith}
 use Rattle.std.specs.Prelude.{nat_le, nat_lt}
 use Rattle.std.proofs.Math.Nat.{div-div-eq-div-mul}
 use Rattle.std.proofs.lemmas.Bool.{and_parts, and_from, or_cases, eqb-true, eq-eqb, leb-true, le-leb, ltb-true, lt-ltb, cases_lt, cases_order}
-use Rattle.ig_space.specs.declared.point.Point.{Point}
 use Rattle.ig_space.specs.Geometry.{count}
 use Rattle.ig_space.specs.Volume.{Voxels}
 use Rattle.ig_graph.specs.Counts.{first_below}
 use Rattle.ig_graph.specs.CountLaws.{IsFound, first_below-found}
-use Rattle.ig_graph.specs.Graph.{Graph, is_in, steps, IsSymmetric, Joined}
+use Rattle.ig_graph.specs.Graph.{Graph, is_in, steps, Joined}
 use Rattle.ig_graph.specs.PathLaws.{or_first, or_second, steps-from, steps-to, steps-adj, in-below, Joined-same, Joined-step, Joined-trans, Joined-sym, Joined-in}
-use Rattle.ig_graph.specs.Quotients.{Crossing, IsQuotient, AreFirsts, Numbered, IsOrdered}
+use Rattle.ig_graph.specs.Quotients.{Crossing, IsQuotient, Numbered, IsOrdered}
 use Rattle.ig_label.specs.declared.rows.Run.{Run}
 use Rattle.ig_label.specs.VoxelGraph.{label_at, voxel_graph}
-use Rattle.ig_label.specs.Runs.{run_at, end_of, IsIn, IsRun, AreRuns}
+use Rattle.ig_label.specs.Runs.{run_at, end_of, IsIn, AreRuns}
 use Rattle.ig_label.specs.RunGraph.{touches, touches_row, is_above, run_graph}
 use Rattle.ig_label.proofs.JoinLaws.{touch-is}
 use Rattle.ig_label.proofs.ClassLaws.{runs-symmetric, above-step}

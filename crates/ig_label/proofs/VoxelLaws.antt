@@ -1,5 +1,5 @@
 -- Steps between voxels, as numbers: by 1 within a row, by the width within a plane, by a plane.
-use Rattle.std.proofs.Common.{ℕ, zero, suc, ◌+◌, ◌-◌, ◌*◌, ◌%◌, ◌/◌, ◌<◌, ◌≤◌, ◌≡◌, ◌≢◌, eqb, ltb, not, ◌&&◌, ◌||◌, Bool, true, false, List, length, get_or, refl, sym, ap, ◌∙◌, subst, ◌⊎◌, inl, inr, arith}
+use Rattle.std.proofs.Common.{ℕ, ◌+◌, ◌*◌, ◌%◌, ◌/◌, ◌<◌, ◌≤◌, ◌≡◌, ◌≢◌, eqb, not, ◌&&◌, ◌||◌, Bool, true, false, refl, sym, ap, ◌∙◌, ◌⊎◌, inl, inr, arith}
 use Rattle.std.proofs.Math.Nat.{mod-lt}
 use Rattle.std.proofs.lemmas.Bool.{and_parts, and_from, or_cases, eqb-true, eqb-false, eq-eqb, ne_eqb, cases_eq, not-true, lt-ltb}
 use Rattle.std.proofs.lemmas.Nat.{div-add-mod', mod-mul-add, div-mul-add}
@@ -8,8 +8,8 @@ use Rattle.ig_space.specs.Geometry.{count}
 use Rattle.ig_space.specs.Grid.{point_at}
 use Rattle.ig_space.specs.Volume.{Voxels, place_of}
 use Rattle.ig_space.specs.Points.{place_of-point_at}
-use Rattle.ig_graph.specs.Graph.{Graph, is_in, steps, IsSymmetric}
-use Rattle.ig_graph.specs.PathLaws.{or_first, or_second, steps-is, steps-from, steps-to, steps-adj, in-below}
+use Rattle.ig_graph.specs.Graph.{is_in, steps, IsSymmetric}
+use Rattle.ig_graph.specs.PathLaws.{or_first, or_second, steps-is, steps-adj}
 use Rattle.ig_label.specs.VoxelGraph.{label_at, differ_by_one, are_beside, voxel_graph}
 
 -- ---- tests

@@ -1,6 +1,5 @@
-use Rattle.std.proofs.Common.{ℕ, ◌≡◌, ◌*◌, List, length, sym, ap, subst, ◌∙◌}
+use Rattle.std.proofs.Common.{◌*◌, length, sym, ap, subst, ◌∙◌}
 use Rattle.std.proofs.lemmas.List.FromFn.{length-range_with_len}
-use Rattle.ig_space.specs.Geometry.{count}
 use Rattle.ig_graph.specs.Sets.{AreClasses, each_alone}
 use Rattle.ig_label.specs.RunGraph.{run_graph}
 use Rattle.ig_label.specs.Joining.{HasJoined}

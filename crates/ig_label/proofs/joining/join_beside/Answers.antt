@@ -1,8 +1,8 @@
-use Rattle.std.proofs.Common.{ℕ, ◌+◌, ◌≡◌, ◌<◌, ◌≤◌, sym, ap, subst, ◌⊎◌, inl, inr, arith, below_more, length, ◌∙◌, List}
+use Rattle.std.proofs.Common.{ℕ, ◌+◌, ◌≡◌, ◌<◌, ◌≤◌, sym, ap, subst, ◌⊎◌, inl, inr, arith, List}
 use Rattle.std.proofs.lemmas.Bool.{cases_eq}
 use Rattle.ig_label.specs.declared.rows.Run.{Run}
 use Rattle.ig_label.specs.Runs.{run_at, end_of}
-use Rattle.ig_label.proofs.JoinLaws.{IsPair, HasJoinedPair, pair-joined, low_more, high_more, begun, ended}
+use Rattle.ig_label.proofs.JoinLaws.{IsPair, HasJoinedPair, pair-joined, low_more, high_more}
 use Rattle.ig_label.proofs.joining.join_beside.Goals as goal
 use Rattle.ig_label.proofs.joining.join_beside.Goals.{After-join_touching}
 

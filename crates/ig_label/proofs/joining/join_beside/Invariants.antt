@@ -1,5 +1,5 @@
 -- The runs that one of the two places has passed are told of.
-use Rattle.std.proofs.Common.{◌≡◌, ◌≤◌, ◌<◌, ◌+◌, ◌-◌, ℕ, length}
+use Rattle.std.proofs.Common.{◌≤◌, ◌<◌, ◌+◌, ◌-◌, ℕ, length}
 use Rattle.ig_label.specs.Runs.{run_at}
 use Rattle.ig_label.specs.Joining.{HasJoined}
 use Rattle.ig_label.proofs.joining.join_beside.Given as goal

@@ -1,5 +1,5 @@
-use Rattle.std.proofs.Common.{ℕ, ◌+◌, ◌≡◌, ◌<◌, ◌≤◌, arith}
-use Rattle.ig_label.proofs.JoinLaws.{ArePlanes, no_planes, planes_more, all_planes, plane-small}
+use Rattle.std.proofs.Common.{arith}
+use Rattle.ig_label.proofs.JoinLaws.{no_planes, planes_more, all_planes, plane-small}
 use Rattle.ig_label.proofs.joining.join_rows.Goals as goal
 
 pub overflow_add-bound : goal.overflow_add-bound

@@ -1,18 +1,13 @@
-use Rattle.std.proofs.Common.{ℕ, ◌≡◌, ◌<◌, ◌≤◌, ◌*◌, List, length, get_or, map, replicate, sym, ap, subst, ◌∙◌, arith, rules}
+use Rattle.std.proofs.Common.{ℕ, ◌≡◌, List, length, map, replicate, sym, ap, subst, ◌∙◌, arith, rules}
 use Rattle.std.proofs.lemmas.List.{take_at}
-use Rattle.std.specs.List.{range_with_len}
 use Rattle.ig_space.specs.declared.point.Point.{Point}
 use Rattle.ig_space.specs.Geometry.{count}
-use Rattle.ig_graph.specs.Counts.{those_below}
-use Rattle.ig_graph.specs.Graph.{is_root, part_of}
 use Rattle.ig_graph.specs.Sets.{AreClasses}
 use Rattle.ig_label.specs.declared.rows.Run.{Run}
-use Rattle.ig_label.specs.VoxelGraph.{label_at, voxel_graph}
-use Rattle.ig_label.specs.Runs.{AreRuns}
+use Rattle.ig_label.specs.VoxelGraph.{label_at}
 use Rattle.ig_label.specs.RunGraph.{run_graph}
 use Rattle.ig_label.specs.Joining.{AreAscending}
-use Rattle.ig_label.specs.Numbering.{AreLeast, number_in, firsts_in, values_in}
-use Rattle.ig_label.specs.Painting.{ArePainted}
+use Rattle.ig_label.specs.Numbering.{AreLeast, firsts_in}
 use Rattle.ig_label.proofs.RunLaws.{sides-some}
 use Rattle.ig_label.proofs.QuotientOfRuns.{HasRuns}
 use Rattle.ig_label.proofs.PartLaws.{runs-ascending, classes-least, all-firsts, local-is, values-are}

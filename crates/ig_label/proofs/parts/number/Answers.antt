@@ -1,4 +1,4 @@
-use Rattle.std.proofs.Common.{ℕ, ◌+◌, ◌≡◌, ◌<◌, ◌++◌, ◌∷◌, [], List, length, subst, sym, ap, ◌∙◌, arith, length-append}
+use Rattle.std.proofs.Common.{◌+◌, ◌<◌, length, subst, sym, ap, ◌∙◌, arith}
 use Rattle.ig_label.specs.Runs.{run_at}
 use Rattle.ig_label.proofs.NumberingLaws.{AreNumbered, number-first, number-same, firsts-few}
 use Rattle.ig_label.proofs.parts.number.Goals as goal

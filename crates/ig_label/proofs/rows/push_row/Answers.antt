@@ -1,4 +1,4 @@
-use Rattle.std.proofs.Common.{ℕ, ◌+◌, ◌≡◌, Result, Ok, Err, OnOk, IfOk, refl, sym, ◌∙◌, arith}
+use Rattle.std.proofs.Common.{◌+◌, Result, Ok, Err, OnOk, refl, ◌∙◌, arith}
 use Rattle.std.specs.declared.alloc.AllocError.{AllocError}
 use Rattle.ig_label.proofs.RunLaws.{within-same, within-new, within-end}
 use Rattle.ig_label.proofs.rows.push_row.Goals as goal

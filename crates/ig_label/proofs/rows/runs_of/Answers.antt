@@ -1,5 +1,4 @@
-use Rattle.std.proofs.Common.{ℕ, ◌+◌, ◌*◌, ◌<◌, ◌≡◌, ap, sym, ◌∙◌, arith, length, subst}
-use Rattle.ig_label.specs.Runs.{AreRuns, AreRunsTo}
+use Rattle.std.proofs.Common.{◌+◌, ◌*◌, ◌<◌, ◌≡◌, ap, sym, ◌∙◌, arith, length}
 use Rattle.ig_label.proofs.RunLaws.{row-is, IsRow}
 use Rattle.ig_label.proofs.rows.runs_of.Goals as goal
 use Rattle.ig_label.proofs.rows.runs_of.Goals.{In-loop-first}
