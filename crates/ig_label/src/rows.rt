@@ -27,13 +27,24 @@ pub fn runs_of(alloc: Global, volume: &Volume) -> Result<Runs, AllocError>
 {
     let width = volume.size().x as usize;
     let labels = volume.labels();
-    let mut runs = Runs::new(alloc);
+    let mut runs = Runs::from_vec(Vec::with_capacity(alloc, changes(labels))?);
     let mut first = 0;
     while first < labels.len() {
         push_row(&mut runs, labels, width, first)?;
         first += width;
     }
     Ok(runs)
+}
+
+/// How many labels differ from the one before: about as many runs there are.
+fn changes(labels: &[u64]) -> usize {
+    let mut count = 0;
+    for place in 1..labels.len() {
+        if labels[place] != labels[place - 1] {
+            count += 1;
+        }
+    }
+    count
 }
 
 /// Adds the runs of the row that begins at `first`.
