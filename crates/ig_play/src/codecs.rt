@@ -59,6 +59,34 @@ fn volume_with(alloc: Global, size: Point, labels: &[u64]) -> Result<Option<Volu
     Ok(Some(volume))
 }
 
+/// The volume of this size with these labels; none where it has another number of voxels, or too many for a test.
+pub(crate) fn small_volume(
+    alloc: Global,
+    size: Point,
+    labels: &[u64],
+) -> Result<Option<Volume>, AllocError> {
+    match volume_with(alloc, size, labels)? {
+        Some(volume) if volume.labels().len() == labels.len() => Ok(Some(volume)),
+        _ => Ok(None),
+    }
+}
+
+/// Numbers in one line.
+pub(crate) fn say_numbers(
+    alloc: Global,
+    told: &mut Told,
+    numbers: &[u32],
+) -> Result<(), AllocError> {
+    let mut line = String::new(alloc);
+    for number in numbers {
+        if !line.is_empty() {
+            line.push(' ')?;
+        }
+        line.push_str(format!(in alloc; "{number}")?.as_str())?;
+    }
+    told.say(line.as_str())
+}
+
 /// The labels in one line.
 fn say_labels(alloc: Global, told: &mut Told, volume: &Volume) -> Result<(), AllocError> {
     let mut line = String::new(alloc);

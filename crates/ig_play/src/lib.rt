@@ -11,6 +11,7 @@ mod layer;
 mod moves;
 mod names;
 mod numbers;
+mod parts;
 mod reader;
 mod stages;
 mod store;

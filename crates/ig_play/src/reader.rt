@@ -6,7 +6,8 @@ use crate::names::{
     ask_candidates, ask_chunk_name, ask_join, ask_path, ask_queue_name, ask_stage_name,
     ask_task_name,
 };
-use crate::numbers::small;
+use crate::numbers::{point, small};
+use crate::parts::{ask_label, ask_runs};
 use crate::stages::{ask_read_task, ask_stage, ask_task, ask_write_task};
 use crate::store::ask_store;
 use crate::{Told, World, stages};
@@ -83,6 +84,22 @@ fn ask_codec(world: &mut World, words: &[&str]) -> Result<Option<Told>, AllocErr
     }
 }
 
+/// The runs and the parts of a box.
+fn ask_parts(
+    alloc: Global,
+    word: &str,
+    size: &str,
+    labels: &[&str],
+) -> Result<Option<Told>, AllocError> {
+    let (Some(size), Some(labels)) = (point(size), labels_of(alloc, labels)?) else {
+        return Ok(None);
+    };
+    match word {
+        "runs_of" => ask_runs(alloc, size, labels.as_slice()),
+        _ => ask_label(alloc, size, labels.as_slice()),
+    }
+}
+
 /// Calls the function that the first word names; none where it names none, or a word is out of form.
 pub fn ask(world: &mut World, words: &[&str]) -> Result<Option<Told>, AllocError> {
     let Some((word, rest)) = words.split_first() else {
@@ -96,6 +113,10 @@ pub fn ask(world: &mut World, words: &[&str]) -> Result<Option<Told>, AllocError
             _ => Ok(None),
         },
         "read" | "names" | "has" | "put" | "shift" | "remove" => ask_store(world, words),
+        "runs_of" | "label" => match rest.split_first() {
+            Some((size, labels)) => ask_parts(world.alloc, word, size, labels),
+            None => Ok(None),
+        },
         "join" => match rest {
             [dir, name] => ask_join(world.alloc, dir, name),
             _ => Ok(None),

@@ -1,3 +1,4 @@
+mod parts;
 mod posix_store;
 mod std_sink;
 mod system_clock;
