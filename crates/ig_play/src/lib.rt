@@ -3,7 +3,7 @@
 //! below; what is expected stands in the transcripts.
 #![tactic(auto)]
 
-mod call;
+mod calling;
 mod codecs;
 mod hand;
 mod infos;
@@ -18,7 +18,7 @@ mod store;
 mod told;
 mod world;
 
-pub use call::call;
+pub use calling::call;
 pub use hand::Hand;
 pub use ig_space::Path;
 pub use ig_store::FileMap;
