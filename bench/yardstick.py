@@ -1,11 +1,13 @@
 #!/usr/bin/env python3
 """Measures the program beside a plain one that does the same work, and what a queue adds to a task.
 
-Usage: bench/yardstick.py [PROGRAM] [--runs N]
+Usage: bench/yardstick.py [PROGRAM] [--runs N] [--queue-only] [--tasks N,N,..] [--queue-runs N]
 
 PROGRAM is crates/igneous/out/igneous without the word. The plain program, plain.rs, is compiled by `rustc`. Both copy, rechunk and
 recode one generated layer, N times each (7), in turns; both have to leave the same files, byte for byte. Then layers of tiny tasks are
-copied at once and by way of a queue. The best of the runs is printed. All files lie in a temporary folder, which is removed.
+copied at once and by way of a queue, which one worker works off, and then another one which four at once do. The best of the runs is
+printed. With --queue-only the first part is left out; --tasks names the numbers of tasks (100,1000,10000,100000), and --queue-runs how
+often each is run (3). All files lie in a temporary folder, which is removed.
 """
 import argparse
 import filecmp
@@ -24,8 +26,10 @@ COMPRESSED = "compressed_segmentation"
 SIZE = "512,512,64"
 CHUNK = "64,64,64"
 RUNS = 7
-QUEUE_TASKS = (100, 1_000, 10_000)
-QUEUE_RUNS = 6
+QUEUE_TASKS = "100,1000,10000,100000"
+QUEUE_RUNS = 3
+WORKERS = 4
+FINISHED, WAITING = 0, 3
 # With ten times the tasks, the queue's cost a task may be so many times as great before it is said to grow.
 STEADY = 1.25
 
@@ -150,21 +154,43 @@ class QueueCosts:
     make: Cost
     execute: Cost
     local: Cost
+    together: Cost  # of all workers: from the first one's start to the last one's end, and their times added
 
     def added(self, kind):
         """What the queue adds to a task's cost of this kind, in microseconds."""
         return (getattr(self.execute, kind) - getattr(self.local, kind)) / self.tasks * 1e6
 
 
+def run_together(words):
+    """Runs so many workers at once, till one has found all tasks done and each has ended."""
+    begun = time.perf_counter()
+    workers = [subprocess.Popen(words, stdout=subprocess.DEVNULL) for _ in range(WORKERS)]
+    busy, memory = 0.0, 0.0
+    for worker in workers:
+        _, status, usage = os.wait4(worker.pid, 0)
+        worker.returncode = os.waitstatus_to_exitcode(status)
+        busy, memory = busy + usage.ru_utime + usage.ru_stime, max(memory, usage.ru_maxrss / 1024)
+        if worker.returncode not in (FINISHED, WAITING):
+            sys.exit(f"{' '.join(words)}: status {worker.returncode}")
+    wall = time.perf_counter() - begun
+    if all(worker.returncode != FINISHED for worker in workers):
+        run(words)
+    return Cost(wall, busy, memory)
+
+
 def run_queue(program, tasks, number):
-    """What the making of a stage of so many tiny tasks costs, a worker on it, and the same copy without a queue."""
+    """What the making of a stage of so many tiny tasks costs, a worker on it, the same copy without a queue, and workers together."""
     source = f"tiny-{tasks}"
-    queued, local, queue = (f"{source}-{what}-{number}" for what in ("queued", "local", "queue"))
-    make = run([*product_words(program, source, queued, "1,1,1", "1,1,1", RAW), "--queue", f"fq://{queue}"])
-    execute = run([program, "execute", f"fq://{queue}"])
+    queued, shared, local = (f"{source}-{what}-{number}" for what in ("queued", "shared", "local"))
+    queue, other = f"fq://{source}-queue-{number}", f"fq://{source}-other-{number}"
+    make = run([*product_words(program, source, queued, "1,1,1", "1,1,1", RAW), "--queue", queue])
+    execute = run([program, "execute", queue])
     at_once = run(product_words(program, source, local, "1,1,1", "1,1,1", RAW))
     check_same(queued, local)
-    return make, execute, at_once
+    run([*product_words(program, source, shared, "1,1,1", "1,1,1", RAW), "--queue", other])
+    together = run_together([program, "execute", other])
+    check_same(shared, local)
+    return make, execute, at_once, together
 
 
 def queue_row(costs):
@@ -173,28 +199,32 @@ def queue_row(costs):
         for cost in (costs.make, costs.execute, costs.local):
             texts.append(f"{getattr(cost, kind) / costs.tasks * 1e6:.0f}")
         texts.append(f"{costs.added(kind):.0f}")
+        texts.append(f"{getattr(costs.together, kind) / costs.tasks * 1e6:.0f}")
     return texts
 
 
 def growth_line(measured):
-    """Whether what the queue adds to a task grows with the number of tasks."""
-    fewer, most = measured[-2].added("busy"), measured[-1].added("busy")
-    verdict = "grows" if most > STEADY * fewer else "does not grow"
+    """Whether a queued task's cost grows with the number of tasks, by one worker and by several, as the last two numbers show it."""
+    says = []
+    for who, cost_of in (("one worker", lambda costs: costs.execute.busy), (f"{WORKERS} workers", lambda costs: costs.together.busy)):
+        each = [cost_of(costs) / costs.tasks * 1e6 for costs in measured]
+        verdict = "grows" if each[-1] > STEADY * each[-2] else "does not grow"
+        says.append(f"by {who} it {verdict}: {', '.join(f'{cost:.0f}' for cost in each)}")
     counts = ", ".join(str(costs.tasks) for costs in measured)
-    added = ", ".join(f"{costs.added('busy'):.0f}" for costs in measured)
-    return f"What the queue adds to a task {verdict}: with {counts} tasks it is {added} microseconds of user and system time."
+    return f"User and system time of a queued task, in microseconds, with {counts} tasks: {'; '.join(says)}."
 
 
-def measure_queues(program, plain):
+def measure_queues(program, plain, counts, runs):
     """Prints the best costs, a row for each number of tasks, which take turns."""
-    for tasks in QUEUE_TASKS:
+    for tasks in counts:
         run([plain, "generate", f"tiny-{tasks}", f"{tasks},1,1", "1,1,1", RAW])
-    turns = [[run_queue(program, tasks, number) for tasks in QUEUE_TASKS] for number in range(QUEUE_RUNS)]
-    measured = [QueueCosts(tasks, *map(best, zip(*own))) for tasks, own in zip(QUEUE_TASKS, zip(*turns))]
-    print(f"\nTasks of one voxel each; best of {QUEUE_RUNS} runs each; microseconds a task.\n")
-    names = ["make", "execute", "local", "added"]
+    turns = [[run_queue(program, tasks, number) for tasks in counts] for number in range(runs)]
+    measured = [QueueCosts(tasks, *map(best, zip(*own))) for tasks, own in zip(counts, zip(*turns))]
+    print(f"\nTasks of one voxel each; best of {runs} runs each; microseconds a task.\n")
+    names = ["make", "execute", "local", "added", f"by {WORKERS}"]
     print_table(["tasks", *names, *(f"{name} u+s" for name in names)], [queue_row(costs) for costs in measured])
-    print("\n" + growth_line(measured))
+    if len(measured) > 1:
+        print("\n" + growth_line(measured))
 
 
 def compile_plain(folder):
@@ -209,6 +239,9 @@ def words_given():
     parser = argparse.ArgumentParser(description="Measures the program beside a plain one that does the same work.")
     parser.add_argument("program", nargs="?", default=DEFAULT_PROGRAM)
     parser.add_argument("--runs", type=int, default=RUNS)
+    parser.add_argument("--queue-only", action="store_true")
+    parser.add_argument("--tasks", default=QUEUE_TASKS)
+    parser.add_argument("--queue-runs", type=int, default=QUEUE_RUNS)
     return parser.parse_args()
 
 
@@ -221,8 +254,9 @@ def main():
     try:
         plain = compile_plain(folder)
         os.chdir(folder)
-        measure_works(program, plain, given.runs)
-        measure_queues(program, plain)
+        if not given.queue_only:
+            measure_works(program, plain, given.runs)
+        measure_queues(program, plain, [int(word) for word in given.tasks.split(",")], given.queue_runs)
     finally:
         os.chdir("/")
         shutil.rmtree(folder)
