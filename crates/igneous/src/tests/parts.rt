@@ -6,7 +6,7 @@ use std::process::Abort;
 use std::test::Fail;
 
 /// How the labels of a box are made.
-#[derive(Clone, Copy, Debug)]
+#[derive(Clone, Copy)]
 enum Kind {
     /// Each of so many labels as likely, 0 among them.
     Random(u64),

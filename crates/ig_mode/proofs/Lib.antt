@@ -1,0 +1,4 @@
+mod Vectors
+mod Written
+mod Planes
+mod MipVolumes

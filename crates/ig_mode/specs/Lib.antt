@@ -1,0 +1,12 @@
+pub mod Mode
+pub mod Mips
+pub mod HasMips
+pub mod HalvedGrids
+pub mod Aligned
+pub mod Known
+pub mod Lanes
+pub mod Halves
+pub mod MipLaws
+pub mod PartLaws
+pub mod CellLaws
+pub mod KnownLaws
