@@ -71,26 +71,10 @@ pub(crate) fn small_volume(
     }
 }
 
-/// Numbers in one line.
-pub(crate) fn say_numbers(
-    alloc: Global,
-    told: &mut Told,
-    numbers: &[u32],
-) -> Result<(), AllocError> {
+/// Labels in one line.
+pub(crate) fn say_labels(alloc: Global, told: &mut Told, labels: &[u64]) -> Result<(), AllocError> {
     let mut line = String::new(alloc);
-    for number in numbers {
-        if !line.is_empty() {
-            line.push(' ')?;
-        }
-        line.push_str(format!(in alloc; "{number}")?.as_str())?;
-    }
-    told.say(line.as_str())
-}
-
-/// The labels in one line.
-fn say_labels(alloc: Global, told: &mut Told, volume: &Volume) -> Result<(), AllocError> {
-    let mut line = String::new(alloc);
-    for label in volume.labels() {
+    for label in labels {
         if !line.is_empty() {
             line.push(' ')?;
         }
@@ -200,7 +184,7 @@ pub(crate) fn ask_decode(
         return Ok(None);
     };
     let mut told = Told::new(alloc, answer);
-    say_labels(alloc, &mut told, &volume.copy()?)?;
+    say_labels(alloc, &mut told, volume.copy()?.labels())?;
     Ok(Some(told))
 }
 

@@ -8,6 +8,7 @@ mod codecs;
 mod hand;
 mod infos;
 mod layer;
+mod mips;
 mod moves;
 mod names;
 mod numbers;

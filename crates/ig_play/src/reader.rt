@@ -1,6 +1,7 @@
 //! Calls of one function below by itself.
 use crate::codecs::{ask_decode, ask_encode, labels_of, read_form};
 use crate::infos::{ask_dest, ask_read, ask_write};
+use crate::mips::{ask_mips, ask_mode, ask_row};
 use crate::moves::ask_move;
 use crate::names::{
     ask_candidates, ask_chunk_name, ask_join, ask_path, ask_queue_name, ask_stage_name,
@@ -100,6 +101,15 @@ fn ask_parts(
     }
 }
 
+/// The mode of labels, and of two rows of them.
+fn ask_modes(alloc: Global, word: &str, labels: &[&str]) -> Result<Option<Told>, AllocError> {
+    match (word, labels_of(alloc, labels)?) {
+        ("mode4", Some(labels)) => ask_mode(alloc, labels.as_slice()),
+        (_, Some(labels)) => ask_row(alloc, labels.as_slice()),
+        _ => Ok(None),
+    }
+}
+
 /// Calls the function that the first word names; none where it names none, or a word is out of form.
 pub fn ask(world: &mut World, words: &[&str]) -> Result<Option<Told>, AllocError> {
     let Some((word, rest)) = words.split_first() else {
@@ -113,6 +123,11 @@ pub fn ask(world: &mut World, words: &[&str]) -> Result<Option<Told>, AllocError
             _ => Ok(None),
         },
         "read" | "names" | "has" | "put" | "shift" | "remove" => ask_store(world, words),
+        "mode4" | "mode_row" => ask_modes(world.alloc, word, rest),
+        "mips" => match rest {
+            [size, levels, labels @ ..] => ask_mips(world.alloc, size, levels, labels),
+            _ => Ok(None),
+        },
         "runs_of" | "label" => match rest.split_first() {
             Some((size, labels)) => ask_parts(world.alloc, word, size, labels),
             None => Ok(None),
