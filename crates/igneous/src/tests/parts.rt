@@ -169,14 +169,8 @@ fn expect_parts(rt: &impl Abort, alloc: Global, kind: Kind, size: Point) -> Resu
     cells.copy_from_slice(labels.as_slice());
     let found = label(alloc, &volume)?;
     let (local, firsts) = flooded(alloc, labels.as_slice(), size)?;
-    assert!(rt;
-        found.local.as_slice() == local.as_slice(),
-        "{kind:?} {size:?}"
-    );
-    assert!(rt;
-        found.firsts.as_slice() == firsts.as_slice(),
-        "{kind:?} {size:?}"
-    );
+    assert!(rt; found.local.as_slice() == local.as_slice());
+    assert!(rt; found.firsts.as_slice() == firsts.as_slice());
     for (first, value) in firsts.iter().zip(found.values.as_slice()) {
         assert_eq!(rt; labels.get(*first as usize), Some(value));
     }
