@@ -1,5 +1,5 @@
 //! The codecs of chunks by themselves.
-ghost use Rattle.std.specs.Prelude.{◌≡◌, ◌≤◌, ◌^◌, IfOk, IfSome, IsTrue};
+ghost use Rattle.std.specs.Prelude.{◌≡◌, ◌≤◌, ◌*◌, ◌^◌, IfOk, IfSome, IsSome, IsTrue};
 ghost use Rattle.ig_space.specs.Geometry.{count, is_wide, padded, padded_to};
 
 use crate::numbers::{number, point};
@@ -38,16 +38,31 @@ pub(crate) fn read_form(size: &str, bits: &str, block: Option<&str>) -> Option<F
     })
 }
 
-/// Whether the volume has few enough voxels for a test.
-fn is_small(size: Point) -> bool {
-    size.x <= 256 && size.y <= 256 && size.z <= 256
+/// The product of three numbers, where it has 64 bits.
+fn product(x: u64, y: u64, z: u64) -> Option<u64>
+    ensures { IfSome result (λ n. n ≡ x * (y * z)) }
+{
+    x.checked_mul(y.checked_mul(z)?)
 }
+
+/// Whether a box of this size has at most so many voxels.
+fn has_few(size: Point, most: u64) -> bool
+    ensures { IsTrue result → count size ≤ most }
+{
+    match product(size.x, size.y, size.z) {
+        Some(voxels) => voxels <= most,
+        None => false,
+    }
+}
+
+/// The most voxels of a volume.
+const MOST_VOXELS: u64 = 1 << 24;
 
 /// A volume of this size whose labels are these, and 3 where there are none.
 fn volume_with(alloc: Global, size: Point, labels: &[u64]) -> Result<Option<Volume>, AllocError>
     ensures { IfOk result (λ found. IfSome found (λ volume. volume.size ≡ size)) }
 {
-    if !is_small(size) {
+    if !has_few(size, MOST_VOXELS) {
         return Ok(None);
     }
     let mut volume = Volume::zeros(alloc, size)?;
@@ -98,6 +113,12 @@ pub(crate) fn labels_of(alloc: Global, words: &[&str]) -> Result<Option<Vec<u64>
 /// The longest side of a chunk, and of a block, that is compressed here.
 const LONGEST: u64 = 128;
 
+/// The most voxels of a chunk.
+const MOST_IN_CHUNK: u64 = 1 << 21;
+
+/// The most voxels of a chunk that is padded to whole blocks.
+const MOST_PADDED: u64 = 1 << 22;
+
 /// A side, made longer to whole blocks.
 fn padded_side(side: u64, block: u64) -> u64
     requires some { 1 ≤ block }
@@ -108,6 +129,41 @@ fn padded_side(side: u64, block: u64) -> u64
     (side + (block - 1)) / block * block
 }
 
+/// Whether no side is too long.
+fn is_short(size: Point) -> bool
+    ensures x { IsTrue result → size.x ≤ 128 }
+    ensures y { IsTrue result → size.y ≤ 128 }
+    ensures z { IsTrue result → size.z ≤ 128 }
+{
+    size.x <= LONGEST && size.y <= LONGEST && size.z <= LONGEST
+}
+
+/// Whether each side is at least 1.
+fn has_sides(size: Point) -> bool
+    ensures x { IsTrue result → 1 ≤ size.x }
+    ensures y { IsTrue result → 1 ≤ size.y }
+    ensures z { IsTrue result → 1 ≤ size.z }
+{
+    size.x >= 1 && size.y >= 1 && size.z >= 1
+}
+
+/// The size of a chunk that is padded to whole blocks, where no side is too long.
+fn padded_size(size: Point, block: Point) -> Option<Point>
+    ensures x { IsSome result → 1 ≤ block.x }
+    ensures y { IsSome result → 1 ≤ block.y }
+    ensures z { IsSome result → 1 ≤ block.z }
+    ensures value { IfSome result (λ p. p ≡ padded_to size block) }
+{
+    if !has_sides(block) || !is_short(block) || !is_short(size) {
+        return None;
+    }
+    Some(Point {
+        x: padded_side(size.x, block.x),
+        y: padded_side(size.y, block.y),
+        z: padded_side(size.z, block.z),
+    })
+}
+
 /// Whether a chunk has so few voxels, also padded to whole blocks.
 fn is_lawful(size: Point, block: Point) -> bool
     ensures x { IsTrue result → 1 ≤ block.x }
@@ -116,15 +172,10 @@ fn is_lawful(size: Point, block: Point) -> bool
     ensures few { IsTrue result → count size ≤ 2 ^ 21 }
     ensures padded { IsTrue result → count (padded_to size block) ≤ 2 ^ 22 }
 {
-    let sides = size.x <= LONGEST && size.y <= LONGEST && size.z <= LONGEST;
-    let low = 1 <= block.x && 1 <= block.y && 1 <= block.z;
-    let high = block.x <= LONGEST && block.y <= LONGEST && block.z <= LONGEST;
-    if !(sides && low && high) {
+    let Some(padded) = padded_size(size, block) else {
         return false;
-    }
-    padded_side(size.x, block.x) <= LONGEST
-        && padded_side(size.y, block.y) <= LONGEST
-        && padded_side(size.z, block.z) <= LONGEST
+    };
+    has_few(size, MOST_IN_CHUNK) && has_few(padded, MOST_PADDED)
 }
 
 /// Whether labels of this width can be compressed.

@@ -43,20 +43,19 @@ fn answer(
 ) -> Result<Option<String>, AllocError>
     requires { length queue.now ≤ 100 }
 {
-    match word {
-        "lease" if name.visible <= now && name.attempt < 999 => {
-            Ok(Some(lease_text(alloc, lease(alloc, store, queue, name, now, 600))?))
-        }
-        "complete" => {
-            let word = closed_word(complete(alloc, store, queue, name));
-            Ok(Some(String::from_str(alloc, word)?))
-        }
-        "bury" => {
-            let word = closed_word(bury(alloc, store, queue, name));
-            Ok(Some(String::from_str(alloc, word)?))
-        }
-        _ => Ok(None),
+    if word == "lease" && name.visible <= now && name.attempt < 999 {
+        let given = lease(alloc, store, queue, name, now, 600);
+        return Ok(Some(lease_text(alloc, given)?));
     }
+    if word == "complete" {
+        let word = closed_word(complete(alloc, store, queue, name));
+        return Ok(Some(String::from_str(alloc, word)?));
+    }
+    if word == "bury" {
+        let word = closed_word(bury(alloc, store, queue, name));
+        return Ok(Some(String::from_str(alloc, word)?));
+    }
+    Ok(None)
 }
 
 /// `lease QUEUE NAME`, for 600 seconds, `complete QUEUE NAME` or `bury QUEUE NAME`.

@@ -63,45 +63,97 @@ fn put(alloc: Global, store: &mut Memory, path: &Path, text: &str) -> Result<Tol
     )
 }
 
-/// The call that the words name, on a path that is the second.
-fn answer(
-    alloc: Global,
-    store: &mut Memory,
-    words: &[&str],
-    path: &Path,
-) -> Result<Option<Told>, AllocError> {
-    Ok(Some(match words {
-        ["read", _] => read(alloc, store, path)?,
-        ["names", _] => list(alloc, store, path)?,
-        ["has", _] => Told::of(alloc, whether(store.has(path)))?,
-        ["put", _, text] => put(alloc, store, path, text)?,
-        ["remove", _] => Told::of(alloc, whether(store.remove(path)))?,
-        ["shift", _, to] => match Path::new(alloc, to)? {
-            Some(to) => Told::of(alloc, whether(store.shift(path, &to)))?,
-            None => return Ok(None),
-        },
-        _ => return Ok(None),
-    }))
-}
-
-/// `read PATH`, `names DIR`, `has PATH`, `put PATH TEXT`, `shift FROM TO` or `remove PATH`.
-pub(crate) fn ask_store(world: &mut World, words: &[&str]) -> Result<Option<Told>, AllocError> {
-    let alloc = world.alloc;
-    let Some(path) = Path::new(alloc, words.get(1).copied().unwrap_or(""))? else {
-        return Ok(None);
-    };
+/// A store in memory over the world's files, in which the next call has the world's faults.
+fn opened(world: &mut World) -> Result<Memory, AllocError> {
     let rule = Pipeline {
         queue: None,
         role: Role::Local,
     };
     let (files, fails) = (world.take_files(), world.take_fails());
-    let mut store = MemStore::new(alloc, rule, files, fails)?;
-    let told = answer(alloc, &mut store, words, &path)?;
-    let steps = steps_text(alloc, store.steps())?;
+    MemStore::new(world.alloc, rule, files, fails)
+}
+
+/// What was told, with the steps of the call; the files are the world's again.
+fn closed(
+    world: &mut World,
+    store: Memory,
+    told: Option<Told>,
+) -> Result<Option<Told>, AllocError> {
+    let steps = steps_text(world.alloc, store.steps())?;
     world.files = store.into_files();
     let Some(mut told) = told else {
         return Ok(None);
     };
     told.steps = steps;
     Ok(Some(told))
+}
+
+/// The call on a path that the word names.
+fn answer(
+    alloc: Global,
+    store: &mut Memory,
+    word: &str,
+    path: &Path,
+) -> Result<Option<Told>, AllocError> {
+    if word == "read" {
+        return Ok(Some(read(alloc, store, path)?));
+    }
+    if word == "names" {
+        return Ok(Some(list(alloc, store, path)?));
+    }
+    if word == "has" {
+        return Ok(Some(Told::of(alloc, whether(store.has(path)))?));
+    }
+    if word == "remove" {
+        return Ok(Some(Told::of(alloc, whether(store.remove(path)))?));
+    }
+    Ok(None)
+}
+
+/// `read PATH`, `names DIR`, `has PATH` or `remove PATH`.
+pub(crate) fn ask_store(
+    world: &mut World,
+    word: &str,
+    path: &str,
+) -> Result<Option<Told>, AllocError> {
+    let Some(path) = Path::new(world.alloc, path)? else {
+        return Ok(None);
+    };
+    let mut store = opened(world)?;
+    let told = answer(world.alloc, &mut store, word, &path)?;
+    closed(world, store, told)
+}
+
+/// The call on a path, with a text or a second path, that the word names.
+fn answer_two(
+    alloc: Global,
+    store: &mut Memory,
+    word: &str,
+    path: &Path,
+    second: &str,
+) -> Result<Option<Told>, AllocError> {
+    if word == "put" {
+        return Ok(Some(put(alloc, store, path, second)?));
+    }
+    match Path::new(alloc, second)? {
+        Some(to) if word == "shift" => {
+            Ok(Some(Told::of(alloc, whether(store.shift(path, &to)))?))
+        }
+        _ => Ok(None),
+    }
+}
+
+/// `put PATH TEXT` or `shift FROM TO`.
+pub(crate) fn ask_two(
+    world: &mut World,
+    word: &str,
+    path: &str,
+    second: &str,
+) -> Result<Option<Told>, AllocError> {
+    let Some(path) = Path::new(world.alloc, path)? else {
+        return Ok(None);
+    };
+    let mut store = opened(world)?;
+    let told = answer_two(world.alloc, &mut store, word, &path, second)?;
+    closed(world, store, told)
 }
