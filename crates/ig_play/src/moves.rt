@@ -1,9 +1,11 @@
 //! The moves of a task's name by themselves.
-ghost use Rattle.std.specs.Prelude.{◌≤◌, length};
+ghost use Rattle.std.specs.Prelude.{◌≡◌, ◌≤◌, length, true};
+ghost use Rattle.ig_defs.specs.QueueNames.{queue_fits};
 
+use crate::names::queue_text;
 use crate::told::steps_text;
 use crate::{Told, World};
-use ig_queue::{Closed, Lease, QueueName, bury, complete, lease, parse_queue_name, queue_name};
+use ig_queue::{Closed, Lease, QueueName, bury, complete, lease, parse_queue_name};
 use ig_space::Path;
 use ig_store::{MemStore, StoreError};
 use ig_task::{Pipeline, Role};
@@ -22,10 +24,7 @@ fn closed_word(closed: Result<Closed, StoreError>) -> &'static str {
 /// What a lease answers.
 fn lease_text(alloc: Global, given: Result<Lease, StoreError>) -> Result<String, AllocError> {
     match given {
-        Ok(Lease::Leased(name)) => {
-            let path = queue_name(alloc, name)?;
-            String::from_str(alloc, path.as_str())
-        }
+        Ok(Lease::Leased(name)) => queue_text(alloc, name),
         Ok(Lease::Gone) => String::from_str(alloc, "gone"),
         Err(StoreError::Failed) => String::from_str(alloc, "failed"),
         Err(StoreError::Memory) => String::from_str(alloc, "out of memory"),
@@ -41,7 +40,8 @@ fn answer(
     name: QueueName,
     now: u64,
 ) -> Result<Option<String>, AllocError>
-    requires { length queue.now ≤ 100 }
+    requires short { length queue.now ≤ 100 }
+    requires fits { queue_fits name ≡ true }
 {
     if word == "lease" && name.visible <= now && name.attempt < 999 {
         let given = lease(alloc, store, queue, name, now, 600);

@@ -9,7 +9,7 @@ use ig_space::{Names, Path, Text, TryClone, chunk_name, parse_chunk_name};
 use std::alloc::{AllocError, Global};
 
 /// What a queue name says.
-fn queue_text(alloc: Global, name: QueueName) -> Result<String, AllocError> {
+pub(crate) fn queue_text(alloc: Global, name: QueueName) -> Result<String, AllocError> {
     let (visible, stage) = (name.visible, name.stage);
     let (task, attempt) = (name.task, name.attempt);
     format!(in alloc; "visible {visible} stage {stage} task {task} attempt {attempt}")
