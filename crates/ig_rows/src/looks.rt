@@ -2,7 +2,7 @@
 use crate::bytes::{bytes_of, shown};
 use crate::fault::{Fault, compare, unreadable};
 use crate::player::Player;
-use crate::settings::{holds, lay, split, words_of};
+use crate::settings::{holds, lay, split};
 use std::alloc::{AllocError, Global};
 
 /// `holds PATH FORM ..`.
@@ -76,35 +76,43 @@ fn look_beside(player: &Player, rest: &str) -> Result<(), Fault> {
 }
 
 /// The paths that the last call's own steps change, each step's in its turn.
-fn changed(alloc: Global, steps: &str) -> Result<Vec<&str>, AllocError> {
-    let mut paths = Vec::new(alloc);
+fn changed(alloc: Global, steps: &str) -> Result<String, AllocError> {
+    let mut paths = String::new(alloc);
     for step in steps.lines() {
         let (word, rest) = split(step);
-        if matches!(word, "put" | "move" | "remove") {
-            for path in rest.split_whitespace() {
-                paths.push(path)?;
-            }
+        if word == "put" || word == "move" || word == "remove" {
+            paths.push_str(rest)?;
+            paths.push(' ')?;
         }
     }
     Ok(paths)
 }
 
-/// `changes PATH..`: the last call changed these files, and no others.
-fn look_at_changes(player: &Player, rest: &str) -> Result<(), Fault> {
-    let alloc = player.alloc;
-    let came = changed(alloc, player.told.steps.as_str())?;
-    let expected = words_of(alloc, rest)?;
-    for path in &came {
-        if !expected.contains(path) {
-            return compare(alloc, "changes", rest, path);
+/// Whether the word is one of the text's.
+fn has_word(text: &str, word: &str) -> bool {
+    for other in text.split_whitespace() {
+        if other == word {
+            return true;
         }
     }
-    for path in &expected {
-        if !came.contains(path) {
-            return compare(alloc, "changes", path, "no change");
+    false
+}
+
+/// Nothing where each of these paths is among the others.
+fn are_among(alloc: Global, paths: &str, others: &str) -> Result<(), Fault> {
+    for path in paths.split_whitespace() {
+        if !has_word(others, path) {
+            return compare(alloc, "changes", others, path);
         }
     }
     Ok(())
+}
+
+/// `changes PATH..`: the last call changed these files, and no others.
+fn look_at_changes(player: &Player, rest: &str) -> Result<(), Fault> {
+    let came = changed(player.alloc, player.told.steps.as_str())?;
+    are_among(player.alloc, came.as_str(), rest)?;
+    are_among(player.alloc, rest, came.as_str())
 }
 
 /// Looks whether it is as the line says.
