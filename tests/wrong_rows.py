@@ -3,7 +3,8 @@
     python3 tests/wrong_rows.py PROGRAM FOLDER
 
 PROGRAM is the one that plays transcripts, FOLDER holds them. Each is copied alone into a temporary folder, and the last byte of its first
-line that expects something (`=`, `>`, `!`, `~`, `holds`) is another one there. The program has to end with status 1 and name that line.
+line that expects something (`=`, `>`, `!`, `~`, `holds`) is another one there. The program has to end with status 1 and name the line
+at which that is compared.
 """
 
 import pathlib
@@ -15,12 +16,15 @@ EXPECTS = ("= ", "> ", "! ", "~ ", "holds ")
 
 
 def changed(text):
-    """The text with one byte changed, and the number of the line."""
+    """The text with one byte changed, and the number of the line at which it is compared: a call is, at its answer."""
     lines = text.split("\n")
     for place, line in enumerate(lines):
         if line.startswith(EXPECTS) and line[-1] not in " }":
             lines[place] = line[:-1] + ("0" if line[-1] != "0" else "1")
-            return "\n".join(lines), place + 1
+            compared = place
+            while not lines[compared].startswith(("= ", "holds ")):
+                compared += 1
+            return "\n".join(lines), compared + 1
     sys.exit("a transcript expects nothing")
 
 
