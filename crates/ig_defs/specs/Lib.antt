@@ -8,3 +8,5 @@ pub mod Own
 pub mod Puts
 pub mod QueueNames
 pub mod QueueNameLaws
+pub mod OneSegment
+pub mod Padded

@@ -135,8 +135,13 @@ is_byte c digit = grind (arith, nat_tests)
 last_digit : (v : ℕ) → v % 10 < 10
 last_digit v = omega arith
 
-are_bytes : List ℕ → Type 0
+-- each byte may stand in a segment
+pub are_bytes : List ℕ → Type 0
 are_bytes text = list_all is_segment_byte text ≡ true
+
+pub are_bytes-from : (text : List ℕ) → list_all is_segment_byte text ≡ true → are_bytes text
+unfolding are_bytes
+are_bytes-from text h = h
 
 are_bytes-append : (xs ys : List ℕ) → are_bytes xs → are_bytes ys → are_bytes (xs ++ ys)
 unfolding are_bytes
@@ -165,7 +170,7 @@ unfolding are_bytes
 is_segment-from [] begins bytes = absurd (true≢false (sym begins))
 is_segment-from (c ∷ cs) begins bytes = and_from _ _ (opens c begins) bytes
 
-is_segment-digits : (n v : ℕ) (rest : List ℕ) → are_bytes rest → is_segment (digits (suc n) v ++ rest) ≡ true
+pub is_segment-digits : (n v : ℕ) (rest : List ℕ) → are_bytes rest → is_segment (digits (suc n) v ++ rest) ≡ true
 is_segment-digits n v rest bytes =
     is_segment-from (digits (suc n) v ++ rest) (begins-append (digits (suc n) v) rest (begins-digits n v))
     (are_bytes-append (digits (suc n) v) rest (are_bytes-digits (suc n) v) bytes)

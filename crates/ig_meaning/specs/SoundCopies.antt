@@ -1,13 +1,14 @@
 -- A sound stage that copies is a copy that can be run.
 use Rattle.std.specs.Prelude.{◌≡◌, ◌≤◌, true, Option, None, Some, option_map, if◌then◌else◌, nat_le, ℕ}
 use Rattle.std.proofs.Common.{ap, le-leb, ◌∙◌}
+use Rattle.ig_space.specs.Grid.{cell_count}
 use Rattle.ig_layer.specs.Faults.{or_else}
 use Rattle.ig_record.specs.declared.stage.Kind.TheVariants.{Xfer}
 use Rattle.ig_record.specs.declared.stage.Stage.{Stage}
 use Rattle.ig_record.specs.Sound.{is_sound}
-use Rattle.ig_record.specs.SoundFacts.{IsSound, IsSound-from}
+use Rattle.ig_record.specs.SoundStages.{IsSound, IsSound-from}
 use Rattle.ig_record.specs.SoundKinds.{IsCopyOf}
-use Rattle.ig_record.specs.Stage.{greatest, hull_voxels, most_tasks, most_voxels, task_count}
+use Rattle.ig_record.specs.Stage.{cells, greatest, hull_voxels, most_tasks, most_voxels}
 use Rattle.ig_meaning.specs.Refusal.{Refusal, ShapeUnfit, TooManyTasks, TaskTooLarge}
 use Rattle.ig_meaning.specs.Stage.{too_large_task, too_many_tasks, unfit, unfit_shape}
 use Rattle.ig_meaning.specs.Copies.{IsCopy}
@@ -22,8 +23,8 @@ allowed n most r few = ap (λ test. if test then None else Some r) (le-leb n mos
 pub sound-fit : (s : Stage) → IsSound s → unfit s ≡ None
 sound-fit s h =
     none-then (unfit_shape s) _ (ap (option_map ShapeUnfit) h.shape.fits)
-    (none-then (too_many_tasks s) (too_large_task s) (allowed (task_count s) most_tasks (TooManyTasks (task_count s)) h.few)
-    (allowed (greatest (hull_voxels s) (task_count s)) most_voxels (TaskTooLarge (greatest (hull_voxels s) (task_count s))) h.light))
+    (none-then (too_many_tasks s) (too_large_task s) (allowed (cell_count (cells s)) most_tasks (TooManyTasks (cell_count (cells s))) h.few_cells)
+    (allowed (greatest (hull_voxels s) (cell_count (cells s))) most_voxels (TaskTooLarge (greatest (hull_voxels s) (cell_count (cells s)))) h.light))
 
 pub sound-copy : (s : Stage) → is_sound s ≡ true → s.kind ≡ Xfer → (c : IsCopyOf s.source s.dests s.info) → IsCopy s c.dest c.put
 sound-copy s sound copies c =

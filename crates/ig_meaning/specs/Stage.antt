@@ -14,7 +14,8 @@ use Rattle.ig_record.specs.declared.stage.Kind.{Kind}
 use Rattle.ig_record.specs.declared.stage.Kind.TheVariants.{Xfer}
 use Rattle.ig_record.specs.declared.stage.InfoFile.{InfoFile}
 use Rattle.ig_record.specs.declared.stage.Stage.{Stage}
-use Rattle.ig_record.specs.Stage.{greatest, hull_voxels, inputs_of, most_tasks, most_voxels, shape_unit, task_box, task_count, unfit_axis}
+use Rattle.ig_record.specs.Columns.{inputs_of}
+use Rattle.ig_record.specs.Stage.{cells, greatest, hull_voxels, most_tasks, most_voxels, shape_unit, task_box, task_count, unfit_axis}
 use Rattle.ig_meaning.specs.Refusal.{Refusal, Missing, ShapeUnfit, TooManyTasks, TaskTooLarge, refusal_of}
 
 -- the volume that is wanted of a stage, by that of its source; the kinds that are not listed write no layer
@@ -41,10 +42,11 @@ abbrev pub unfit_shape : Stage → Option Refusal
 unfit_shape s = option_map ShapeUnfit (unfit_axis (shape_unit s.kind s.source s.dests) s.shape)
 
 abbrev pub too_many_tasks : Stage → Option Refusal
-too_many_tasks s = if nat_le (task_count s) most_tasks then None else Some (TooManyTasks (task_count s))
+too_many_tasks s = if nat_le (cell_count (cells s)) most_tasks then None else Some (TooManyTasks (cell_count (cells s)))
 
 abbrev pub too_large_task : Stage → Option Refusal
-too_large_task s = if nat_le (greatest (hull_voxels s) (task_count s)) most_voxels then None else Some (TaskTooLarge (greatest (hull_voxels s) (task_count s)))
+too_large_task s =
+    if nat_le (greatest (hull_voxels s) (cell_count (cells s))) most_voxels then None else Some (TaskTooLarge (greatest (hull_voxels s) (cell_count (cells s))))
 
 abbrev pub unfit : Stage → Option Refusal
 unfit s = or_else (unfit_shape s) (or_else (too_many_tasks s) (too_large_task s))

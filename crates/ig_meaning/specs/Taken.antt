@@ -5,14 +5,9 @@ use Rattle.ig_space.specs.Path.{joined}
 use Rattle.ig_layer.specs.Faults.{or_else}
 use Rattle.ig_record.specs.declared.stage.InfoFile.{InfoFile}
 use Rattle.ig_record.specs.declared.stage.Stage.{Stage}
-use Rattle.ig_record.specs.Stage.{output_dirs, removed_dir}
+use Rattle.ig_record.specs.Columns.{is_among, output_dirs, removed_dir}
 use Rattle.ig_meaning.specs.Refusal.{Refusal, Taken}
 use Rattle.ig_meaning.specs.Stage.{unfit}
-
--- the directory is among these
-abbrev pub is_among : List ℕ → List (List ℕ) → Bool
-is_among dir [] = false
-is_among dir (other ∷ dirs) = bytes_eq dir other || is_among dir dirs
 
 abbrev pub share_one : List (List ℕ) → List (List ℕ) → Bool
 share_one [] dirs = false

@@ -8,9 +8,10 @@ use Rattle.std.specs.Str.{bytes_eq}
 use Rattle.ig_space.specs.Path.{joined}
 use Rattle.ig_record.specs.declared.stage.InfoFile.{InfoFile}
 use Rattle.ig_record.specs.declared.stage.Stage.{Stage}
-use Rattle.ig_record.specs.Stage.{output_dirs, removed_dir}
+use Rattle.ig_record.specs.Columns.{output_dirs, removed_dir}
 use Rattle.ig_meaning.specs.Refusal.{Taken}
-use Rattle.ig_meaning.specs.Taken.{has_info_among, is_among, removes_one, share_one, taken_by, taker_from, takes}
+use Rattle.ig_record.specs.Columns.{is_among}
+use Rattle.ig_meaning.specs.Taken.{has_info_among, removes_one, share_one, taken_by, taker_from, takes}
 
 -- ---- directories among others
 

@@ -9,7 +9,7 @@ use Rattle.ig_space.specs.declared.geometry.Geometry.{Geometry}
 use Rattle.ig_space.specs.declared.geometry.Grid.{Grid}
 use Rattle.ig_space.specs.declared.place.Place.{Place}
 use Rattle.ig_space.specs.Geometry.{count, geometry_fits}
-use Rattle.ig_space.specs.Grid.{IsGrid, IsWithin, cell_of, chunks_of, counts, high_along, hull, index_along, low_along, point_at, size_of, space_of}
+use Rattle.ig_space.specs.Grid.{IsGrid, IsWithin, cell, cell_count, cell_of, chunks_of, counts, high_along, hull, index_along, low_along, point_at, size_of, space_of}
 use Rattle.ig_space.specs.Cells.{cell-within}
 use Rattle.ig_space.specs.CellBoxes.{chunks-IsGrid}
 use Rattle.ig_space.specs.Hulls.{IsPart, hull_high, hull_high-above, hull_low, hull_low-below, part-x, part-y, part-z}
@@ -18,29 +18,18 @@ use Rattle.ig_meaning.specs.Refusal.{ShapeUnfit}
 use Rattle.ig_record.specs.declared.stage.Stage.{Stage}
 use Rattle.ig_record.specs.declared.stage.Kind.{Kind}
 use Rattle.ig_record.specs.declared.stage.InfoFile.{InfoFile}
-use Rattle.ig_record.specs.Stage.{greatest, hull_voxels, most_tasks, most_voxels, shape_unit, task_box, task_count, task_grid, unfit_axis}
+use Rattle.ig_record.specs.SoundStages.{tasks-IsGrid}
+use Rattle.ig_record.specs.Stage.{cells, greatest, hull_voxels, most_tasks, most_voxels, shape_unit, task_box, task_count, task_grid, task_size, unfit_axis}
 use Rattle.ig_meaning.specs.Stage.{too_large_task, too_many_tasks, unfit_shape}
 use Rattle.ig_meaning.specs.Copies.{IsCopy}
 
 -- ---- the grids
--- the tasks of a source that fits cut it by a shape with sides
-pub tasks-IsGrid : (s : Stage) → geometry_fits s.source.geometry ≡ true → 1 ≤ s.shape.x → 1 ≤ s.shape.y → 1 ≤ s.shape.z → IsGrid (task_grid s)
-tasks-IsGrid s fits x y z =
-    let whole = chunks-IsGrid s.source.geometry fits in
-    record {
-      x_step = x;
-      y_step = y;
-      z_step = z;
-      x_order = whole.x_order;
-      y_order = whole.y_order;
-      z_order = whole.z_order;
-      x_small = whole.x_small;
-      y_small = whole.y_small;
-      z_small = whole.z_small;
-    }
+-- the box of a copy's task is of the shape
+pub copy-size : (s : Stage) (dest : Place) (info : InfoFile) → IsCopy s dest info → task_size s.kind s ≡ s.shape
+copy-size s dest info c = ap (λ (kind : Kind). task_size kind s) c.kind
 
 pub task_grid-IsGrid : (s : Stage) (dest : Place) (info : InfoFile) → IsCopy s dest info → IsGrid (task_grid s)
-task_grid-IsGrid s dest info c = tasks-IsGrid s c.source_fits c.shape.0 c.shape.1 c.shape.2
+task_grid-IsGrid s dest info c = tasks-IsGrid s c.source_fits (record { x = c.shape.0; y = c.shape.1; z = c.shape.2 })
 
 -- both layers have one space
 pub space_of-dest : (s : Stage) (dest : Place) (info : InfoFile) → IsCopy s dest info → space_of s.source.geometry ≡ space_of dest.geometry
@@ -87,16 +76,18 @@ unfit_axis-none unit shape none =
     let all = all_whole (shape.x % unit.x == 0) (shape.y % unit.y == 0) (shape.z % unit.z == 0) none in
     record { x = eqb-true _ _ all.0; y = eqb-true _ _ all.1; z = eqb-true _ _ all.2 }
 
-shape-whole : (s : Stage) (dest : Place) (info : InfoFile) → IsCopy s dest info → IsWhole dest.geometry.chunk s.shape
+shape-whole : (s : Stage) (dest : Place) (info : InfoFile) → IsCopy s dest info → IsWhole dest.geometry.chunk (task_size s.kind s)
 shape-whole s dest info c =
     let no_shape = option_map-none ShapeUnfit _ (or_else-none (unfit_shape s) _ c.fit).0 in
     let unit : shape_unit s.kind s.source s.dests ≡ dest.geometry.chunk = ap (shape_unit s.kind s.source) c.dests ∙ ap (λ (kind : Kind). shape_unit kind s.source (dest ∷ [])) c.kind in
-    subst (λ unit. IsWhole unit s.shape) unit (unfit_axis-none (shape_unit s.kind s.source s.dests) s.shape no_shape)
+    let shape = subst (λ unit. IsWhole unit s.shape) unit (unfit_axis-none (shape_unit s.kind s.source s.dests) s.shape no_shape) in
+    subst (IsWhole dest.geometry.chunk) (sym (copy-size s dest info c)) shape
 
 pub task_count-few : (s : Stage) (dest : Place) (info : InfoFile) → IsCopy s dest info → task_count s ≤ 1000000
 task_count-few s dest info c =
     let no_count = (or_else-none (too_many_tasks s) (too_large_task s) (or_else-none (unfit_shape s) _ c.fit).1).0 in
-    leb-true (task_count s) most_tasks (if_allowed _ _ no_count)
+    let few = leb-true (cell_count (cells s)) most_tasks (if_allowed _ _ no_count) in
+    subst (λ (step : Point). cell_count (record { space = space_of s.source.geometry; step = step }) ≤ 1000000) (sym (copy-size s dest info c)) few
 
 greatest-once : (f : ℕ → ℕ) (n k : ℕ) → k < suc n → (k < n → f k ≤ greatest f n) → (k < n) ⊎ (n ≤ k) → f k ≤ greatest f (suc n)
 greatest-once f n k below before (inl less) = omega (arith, before less)
@@ -108,11 +99,18 @@ greatest-above : (f : ℕ → ℕ) (n k : ℕ) → k < n → f k ≤ greatest f 
 greatest-above f zero k below = absurd (omega (arith, below))
 greatest-above f (suc n) k below = greatest-once f n k below (greatest-above f n k) (cases_lt k n)
 
-pub task_hull-few : (s : Stage) (dest : Place) (info : InfoFile) → IsCopy s dest info → (k : ℕ) → k < task_count s → hull_voxels s k ≤ 2 ^ 24
+-- how many voxels the chunks have that meet a box of this size
+abbrev met_by : Stage → Point → ℕ → ℕ
+met_by s step k = count (size_of (hull (chunks_of s.source.geometry) (cell (record { space = space_of s.source.geometry; step = step }) k)).space)
+
+pub task_hull-few : (s : Stage) (dest : Place) (info : InfoFile) → IsCopy s dest info → (k : ℕ) → k < task_count s
+    → count (size_of (hull (chunks_of s.source.geometry) (task_box s k)).space) ≤ 2 ^ 24
 task_hull-few s dest info c k below =
     let no_size = (or_else-none (too_many_tasks s) (too_large_task s) (or_else-none (unfit_shape s) _ c.fit).1).1 in
-    let few : greatest (hull_voxels s) (task_count s) ≤ most_voxels = leb-true (greatest (hull_voxels s) (task_count s)) most_voxels (if_allowed _ _ no_size) in
-    omega (arith, few, greatest-above (hull_voxels s) (task_count s) k below)
+    let n = cell_count (cells s) in
+    let few : greatest (hull_voxels s) n ≤ most_voxels = leb-true (greatest (hull_voxels s) n) most_voxels (if_allowed _ _ no_size) in
+    let each : k < n → met_by s s.shape k ≤ 2 ^ 24 = λ less. let most = greatest-above (hull_voxels s) n k less in omega (arith, few, most) in
+    subst (λ (step : Point). k < cell_count (record { space = space_of s.source.geometry; step = step }) → met_by s step k ≤ 2 ^ 24) (sym (copy-size s dest info c)) each below
 
 -- ---- one axis: steps of whole chunks
 -- a part of the side from a cell of whole chunks on begins with a chunk
@@ -153,11 +151,11 @@ cell-aligned space step shape i whole grid within =
     λ j. record { lo = record { x = lx j; y = ly j; z = lz j }; hi = record { x = hx j; y = hy j; z = hz j } }
 
 -- where the shape is of whole chunks of a scale of the source's space, each task's box is made of such chunks
-pub task_box-whole : (s : Stage) (g : Geometry) → IsGrid (task_grid s) → geometry_fits g ≡ true → space_of g ≡ space_of s.source.geometry → IsWhole g.chunk s.shape → (k : ℕ) → k < task_count s
+pub task_box-whole : (s : Stage) (g : Geometry) → IsGrid (task_grid s) → geometry_fits g ≡ true → space_of g ≡ space_of s.source.geometry → IsWhole g.chunk (task_size s.kind s) → (k : ℕ) → k < task_count s
     → (hull (chunks_of g) (task_box s k)).space ≡ task_box s k
 task_box-whole s g tasks fits same whole k below =
     let grid = subst (λ space. IsGrid (record { space = space; step = g.chunk })) same (chunks-IsGrid g fits) in
-    let aligned = cell-aligned (space_of s.source.geometry) g.chunk s.shape (point_at (counts (task_grid s)) k) whole grid (cell-within (task_grid s) tasks k below) in
+    let aligned = cell-aligned (space_of s.source.geometry) g.chunk (task_size s.kind s) (point_at (counts (task_grid s)) k) whole grid (cell-within (task_grid s) tasks k below) in
     subst (λ space. (hull (record { space = space; step = g.chunk }) (task_box s k)).space ≡ task_box s k) (sym same) aligned
 
 -- a task's box is made of whole chunks of the new layer

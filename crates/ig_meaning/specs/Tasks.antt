@@ -15,7 +15,8 @@ use Rattle.ig_meaning.specs.Refusal.{Refusal, refusal_of}
 use Rattle.ig_record.specs.declared.stage.Stage.{Stage}
 use Rattle.ig_record.specs.declared.stage.Kind.{Kind}
 use Rattle.ig_record.specs.declared.stage.Kind.TheVariants.{Xfer}
-use Rattle.ig_record.specs.Stage.{inputs_by, inputs_of, task_box}
+use Rattle.ig_record.specs.Columns.{inputs_by, inputs_of}
+use Rattle.ig_record.specs.Stage.{task_box}
 use Rattle.ig_meaning.specs.Stage.{Ran, absent_in, chunks_refusal, first_absent, input_box, input_count, input_path, refusal_by, run_task, run_tasks, task_files, task_refusal, with_task}
 use Rattle.ig_meaning.specs.Fault.{Find, begin_with, fault_of_tasks, finds_in, found_among}
 
@@ -108,7 +109,7 @@ get_or-listed f (suc n) i d below = at_either f n i d below (get_or-listed f n i
 
 -- a copy reads the chunks that meet the task's box
 pub inputs_of-copy : (s : Stage) → s.kind ≡ Xfer → (k : ℕ) → inputs_of s k ≡ listed (input_path s k) (input_count s k)
-inputs_of-copy s copies k = ap (λ (kind : Kind). inputs_by kind s k) copies
+inputs_of-copy s copies k = ap (λ (kind : Kind). inputs_by kind s k) copies ∙ append-nil (listed (input_path s k) (input_count s k))
 
 pub found_among-input : (s : Stage) → s.kind ≡ Xfer → (k : ℕ) (given : List ℕ → Option (List ℕ)) (i : ℕ) → i < input_count s k
     → found_among (finds_in given (inputs_of s k)) (input_path s k i) ≡ given (input_path s k i)

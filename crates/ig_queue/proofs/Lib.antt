@@ -4,5 +4,3 @@ pub mod Moving
 pub mod Numbers
 pub mod Parsed
 pub mod Ranks
-pub mod Segments
-pub mod Written

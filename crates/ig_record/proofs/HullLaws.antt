@@ -6,10 +6,10 @@ use Rattle.std.proofs.lemmas.Nat.{div-add-mod', le-div, mod_below, mul-le}
 use Rattle.ig_space.specs.declared.point.Point.{Point}
 use Rattle.ig_space.specs.Cells.{IsPlace, index-below, low-below, number-below as place-below, point_at-is, point_at-place}
 use Rattle.ig_space.specs.Geometry.{count}
-use Rattle.ig_space.specs.Grid.{count_along, counts, high_along, index_along, low_along, point_at}
+use Rattle.ig_space.specs.Grid.{cell_count, count_along, counts, high_along, index_along, low_along, point_at}
 use Rattle.ig_record.specs.declared.stage.Stage.{Stage}
 use Rattle.ig_record.specs.SoundFacts.{HasSides}
-use Rattle.ig_record.specs.Stage.{greatest, hull_voxels, task_count, task_grid}
+use Rattle.ig_record.specs.Stage.{cells, greatest, hull_voxels}
 use Rattle.ig_record.specs.HullSides.{hull_along}
 
 -- the last chunk begins here, and the first task that meets it has this number
@@ -380,17 +380,17 @@ count-is lo size step = ap (λ long. (long + (step - 1)) / step) (omega arith)
 
 pub hull-product : (s : Stage) (k : ℕ)
     → hull_voxels s k ≡ product_at (hull_along s.source.geometry.size.x s.shape.x s.source.geometry.chunk.x) (hull_along s.source.geometry.size.y s.shape.y s.source.geometry.chunk.y)
-    (hull_along s.source.geometry.size.z s.shape.z s.source.geometry.chunk.z) (point_at (counts (task_grid s)) k)
+    (hull_along s.source.geometry.size.z s.shape.z s.source.geometry.chunk.z) (point_at (counts (cells s)) k)
 hull-product s k =
     let g = s.source.geometry in
-    let p = point_at (counts (task_grid s)) k in
+    let p = point_at (counts (cells s)) k in
     let x = side-is g.offset.x g.size.x s.shape.x g.chunk.x p.x in
     let y = side-is g.offset.y g.size.y s.shape.y g.chunk.y p.y in
     let z = side-is g.offset.z g.size.z s.shape.z g.chunk.z p.z in
     λ i. x i * (y i * z i)
 
 pub hulls-product : (s : Stage) → 1 ≤ s.source.geometry.size.x → 1 ≤ s.source.geometry.size.y → 1 ≤ s.source.geometry.size.z → HasSides s.shape
-    → greatest (hull_voxels s) (task_count s)
+    → greatest (hull_voxels s) (cell_count (cells s))
     ≡ greatest (hull_along s.source.geometry.size.x s.shape.x s.source.geometry.chunk.x) (count_along 0 s.source.geometry.size.x s.shape.x)
     * (greatest (hull_along s.source.geometry.size.y s.shape.y s.source.geometry.chunk.y) (count_along 0 s.source.geometry.size.y s.shape.y)
     * greatest (hull_along s.source.geometry.size.z s.shape.z s.source.geometry.chunk.z) (count_along 0 s.source.geometry.size.z s.shape.z))
@@ -402,7 +402,7 @@ hulls-product s x_some y_some z_some sides =
     let x = count-is g.offset.x g.size.x s.shape.x in
     let y = count-is g.offset.y g.size.y s.shape.y in
     let z = count-is g.offset.z g.size.z s.shape.z in
-    greatest-product f j h (hull_voxels s) (counts (task_grid s)) (omega (arith, x, number-below g.size.x s.shape.x 0 sides.x x_some))
+    greatest-product f j h (hull_voxels s) (counts (cells s)) (omega (arith, x, number-below g.size.x s.shape.x 0 sides.x x_some))
     (omega (arith, y, number-below g.size.y s.shape.y 0 sides.y y_some)) (omega (arith, z, number-below g.size.z s.shape.z 0 sides.z z_some))
     (λ k below. hull-product s k)
     ∙ λ i. greatest f (x i) * (greatest j (y i) * greatest h (z i))

@@ -4,3 +4,5 @@ pub mod ChunkLists
 pub mod Texts
 pub mod Verdicts
 pub mod HullLaws
+mod Names
+mod Above

@@ -1,12 +1,13 @@
 -- The tasks of a sound stage.
-use Rattle.std.proofs.Common.{◌≡◌, ◌≤◌, ◌<◌, ◌+◌, ◌*◌, ℕ, true, arith, mul-pos, le_refl}
+use Rattle.std.proofs.Common.{◌≡◌, ◌≤◌, ◌<◌, ◌+◌, ◌*◌, ◌^◌, ℕ, true, IfSome, arith, mul-pos, le_refl}
 use Rattle.ig_space.specs.Cells.{index-below}
 use Rattle.ig_space.specs.Geometry.{geometry_fits, Fits-from}
 use Rattle.ig_space.specs.Grid.{count_along, counts}
 use Rattle.ig_record.specs.declared.stage.Stage.{Stage}
-use Rattle.ig_record.specs.Stage.{task_count}
+use Rattle.ig_record.specs.Stage.{task_count, task_size}
 use Rattle.ig_record.specs.Sound.{is_sound}
-use Rattle.ig_record.specs.SoundFacts.{HasSides, IsSound, IsSound-from}
+use Rattle.ig_record.specs.SoundFacts.{HasSides, IsScratch}
+use Rattle.ig_record.specs.SoundStages.{IsSound, IsSound-from, task-sides}
 
 pub sound-fits : (s : Stage) → is_sound s ≡ true → geometry_fits s.source.geometry ≡ true
 sound-fits s h = (IsSound-from s h).fits
@@ -24,10 +25,18 @@ along-some lo size step some cut =
 pub tasks-some : (s : Stage) → is_sound s ≡ true → 1 ≤ task_count s
 tasks-some s h =
     let f = Fits-from s.source.geometry (sound-fits s h) in
-    let sides = sound-sides s h in
+    let sides = task-sides s.kind s (sound-fits s h) (sound-sides s h) in
+    let step = task_size s.kind s in
     let g = s.source.geometry in
-    mul-pos (along-some g.offset.x g.size.x s.shape.x f.x_some sides.x)
-    (mul-pos (along-some g.offset.y g.size.y s.shape.y f.y_some sides.y) (along-some g.offset.z g.size.z s.shape.z f.z_some sides.z))
+    mul-pos (along-some g.offset.x g.size.x step.x f.x_some sides.x)
+    (mul-pos (along-some g.offset.y g.size.y step.y f.y_some sides.y) (along-some g.offset.z g.size.z step.z f.z_some sides.z))
 
 pub tasks-few : (s : Stage) → is_sound s ≡ true → task_count s ≤ 1000000
 tasks-few s h = (IsSound-from s h).few
+
+-- ---- what calls on a sound stage ask for
+pub sound_scratch : (s : Stage) → is_sound s ≡ true → IfSome s.scratch IsScratch
+sound_scratch s h = (IsSound-from s h).layers.row.keeps
+
+pub task_number : (s : Stage) (k : ℕ) → is_sound s ≡ true → k < task_count s → k < 10 ^ 6
+task_number s k h below = let few = (IsSound-from s h).few in omega (arith, few, below)

@@ -18,7 +18,8 @@ use Rattle.ig_record.specs.declared.stage.Stage.{Stage}
 use Rattle.ig_record.specs.Members.{record_of}
 use Rattle.ig_record.specs.Record.{block_data, geometry_data, info_data, kind_word, place_data, places_data, record_data, record_text, scratch_data}
 use Rattle.ig_record.specs.Sound.{is_sound}
-use Rattle.ig_record.specs.SoundFacts.{IsPut, IsSound, IsSound-from}
+use Rattle.ig_record.specs.SoundFacts.{IsPut}
+use Rattle.ig_record.specs.SoundStages.{IsSound, IsSound-from}
 
 -- ---- UTF-8
 pub utf8-ok : {X E : Type 0} (bytes : List ℕ) (r : Result X E) (same : X → List ℕ) (P : E → Type 0) → MatchResult r (λ x. (same x ≡ bytes) × IsUtf8 bytes) (λ e. (IsUtf8 bytes → ⊥) × P e) → is_utf8 bytes ≡ true → IsOk r
@@ -30,7 +31,7 @@ put-text None h = tt
 put-text (Some info) h = h.text
 
 pub sound-text : (s : Stage) → is_sound s ≡ true → IfSome s.info (λ info. is_utf8 info.text ≡ true)
-sound-text s h = put-text s.info (IsSound-from s h).layers.others.puts
+sound-text s h = put-text s.info (IsSound-from s h).layers.row.puts
 
 -- ---- places
 places_data-map : (ps : List Place) → places_data ps ≡ items_of (map place_data ps)

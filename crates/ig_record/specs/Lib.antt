@@ -1,8 +1,11 @@
 pub mod Stage
+pub mod Columns
 pub mod HullSides
 pub mod Sound
 pub mod SoundFacts
 pub mod SoundKinds
+pub mod SoundRows
+pub mod SoundStages
 pub mod Members
 pub mod Record
 pub mod Answers

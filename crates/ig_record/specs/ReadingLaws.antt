@@ -1,5 +1,5 @@
 -- The bytes of a record are those of exactly one sound stage.
-use Rattle.std.specs.Prelude.{◌≡◌, ◌<◌, ◌^◌, ◌&&◌, ◌↔◌, ℕ, Bool, true, false, List, [], ◌∷◌, Option, None, Some, option_and_then, if◌then◌else◌, codes}
+use Rattle.std.specs.Prelude.{◌≡◌, ◌<◌, ◌^◌, ◌&&◌, ◌↔◌, ℕ, Bool, true, false, List, [], ◌∷◌, IfSome, Option, None, Some, option_and_then, if◌then◌else◌, codes}
 use Rattle.std.proofs.Common.{refl, sym, ap, ◌∙◌, subst, le_trans, lit≤}
 use Rattle.std.proofs.lemmas.Bool.{and_from, and_parts}
 use Rattle.std.proofs.lemmas.Slice.Eq.{bytes_eq-Decides}
@@ -17,24 +17,30 @@ use Rattle.ig_record.specs.Record.{info_data, place_data, places_data, record_da
 use Rattle.ig_record.specs.RecordBack.{array-back, info-back, place-back, places-back, point-back, record-back, scratch-back, IsReadable}
 use Rattle.ig_record.specs.SmallNumbers.{geometry-small}
 use Rattle.ig_record.specs.Sound.{is_sound}
-use Rattle.ig_record.specs.SoundFacts.{IsDest, IsSound, IsSound-from}
+use Rattle.ig_space.specs.Path.{is_path}
+use Rattle.ig_record.specs.SoundFacts.{IsScale, IsScratch}
+use Rattle.ig_record.specs.SoundStages.{IsSound, IsSound-from}
 use Rattle.ig_record.specs.StageBack.{stage-read, IsReadableStage}
 
 -- ---- a sound stage can be read back
 
-dests-readable : (source : Place) (dests : List Place) → AllByRecursion (IsDest source) dests → AllByRecursion IsReadable dests
-dests-readable source [] h = tt
-dests-readable source (dest ∷ dests) h = (record { dir = h.0.dir.path; numbers = geometry-small dest.geometry h.0.fits }, dests-readable source dests h.1)
+dests-readable : (dests : List Place) → AllByRecursion IsScale dests → AllByRecursion IsReadable dests
+dests-readable [] h = tt
+dests-readable (dest ∷ dests) h = (record { dir = h.0.dir.path; numbers = geometry-small dest.geometry h.0.fits }, dests-readable dests h.1)
+
+scratch-readable : (scratch : Option (List ℕ)) → IfSome scratch IsScratch → IfSome scratch (λ dir. is_path dir ≡ true)
+scratch-readable None h = tt
+scratch-readable (Some dir) h = h.path
 
 pub sound-readable : (s : Stage) → is_sound s ≡ true → IsReadableStage s
 sound-readable s h =
     let all = IsSound-from s h in
     record {
       source = record { dir = all.layers.dir.path; numbers = geometry-small s.source.geometry all.fits };
-      dests = dests-readable s.source s.dests all.layers.others.writes;
-      scratch = all.layers.others.keeps;
+      dests = dests-readable s.dests all.layers.row.scales;
+      scratch = scratch-readable s.scratch all.layers.row.keeps;
       shape = all.shape.small;
-      info = all.layers.others.puts;
+      info = all.layers.row.puts;
     }
 
 pub record-parsed : (n : ℕ) (s : Stage) → n < 2 ^ 64 → is_sound s ≡ true → parsed (record_text n s) ≡ Some (record_data n s)

@@ -1,19 +1,34 @@
--- The tasks of a stage, and what they read and write: this project's own.
-use Rattle.std.specs.Prelude.{ℕ, zero, suc, ◌==◌, ◌%◌, ◌^◌, max, if◌then◌else◌, List, [], ◌∷◌, ◌++◌, Option, None, Some}
+-- The tasks of a stage, and the limits of these: this project's own.
+use Rattle.std.specs.Prelude.{ℕ, zero, suc, ◌==◌, ◌%◌, ◌*◌, ◌^◌, max, if◌then◌else◌, List, [], ◌∷◌, length, Option, None, Some}
 use Rattle.ig_space.specs.declared.point.Point.{Point}
 use Rattle.ig_space.specs.declared.point.Box3.{Box3}
 use Rattle.ig_space.specs.declared.geometry.Grid.{Grid}
 use Rattle.ig_space.specs.declared.place.Place.{Place}
-use Rattle.ig_space.specs.Chunks.{chunks_in}
 use Rattle.ig_space.specs.Grid.{cell, cell_count, chunks_of, hull, size_of, space_of}
 use Rattle.ig_space.specs.Geometry.{count}
 use Rattle.ig_record.specs.declared.stage.Kind.{Kind}
-use Rattle.ig_record.specs.declared.stage.Kind.TheVariants.{Xfer, Remove}
+use Rattle.ig_record.specs.declared.stage.Kind.TheVariants.{Xfer, Downsample, Faces, Links, Labels, Relabel, Count, Sum, Remove}
 use Rattle.ig_record.specs.declared.stage.Stage.{Stage}
 
--- ---- tasks: the whole box of the source, cut into boxes of the shape
+-- ---- tasks: the whole box of the source, cut into boxes
+-- the boxes of the shape, which limits speak of
+abbrev pub cells : Stage → Grid
+cells s = record { space = space_of s.source.geometry; step = s.shape }
+
+-- How long the box of a task is: as the shape, and for kinds with one task the whole box.
+abbrev pub task_size : Kind → Stage → Point
+task_size Xfer s = s.shape
+task_size Downsample s = s.shape
+task_size Faces s = s.shape
+task_size Links s = s.shape
+task_size Labels s = s.source.geometry.size
+task_size Relabel s = s.shape
+task_size Count s = s.shape
+task_size Sum s = s.source.geometry.size
+task_size Remove s = s.shape
+
 abbrev pub task_grid : Stage → Grid
-task_grid s = record { space = space_of s.source.geometry; step = s.shape }
+task_grid s = record { space = space_of s.source.geometry; step = task_size s.kind s }
 
 abbrev pub task_count : Stage → ℕ
 task_count s = cell_count (task_grid s)
@@ -22,10 +37,37 @@ abbrev pub task_box : Stage → ℕ → Box3
 task_box s k = cell (task_grid s) k
 
 -- ---- which shapes can be run
--- a shape is a multiple of this: the size of a chunk of the copy, and else of the source
+-- a chunk that m mips make one of
+abbrev pub before_mips : ℕ → Point → Point
+before_mips m chunk = record { x = 2 ^ m * chunk.x; y = 2 ^ m * chunk.y; z = chunk.z }
+
+abbrev pub first_chunk : Place → List Place → Point
+first_chunk source [] = source.geometry.chunk
+first_chunk source (dest ∷ dests) = dest.geometry.chunk
+
+-- A shape is a multiple of this: the size of a chunk of the copy, of what the last of the mips makes one of, and else of the source.
 abbrev pub shape_unit : Kind → Place → List Place → Point
-shape_unit Xfer source (dest ∷ dests) = dest.geometry.chunk
-shape_unit kind source dests = source.geometry.chunk
+shape_unit Xfer source dests = first_chunk source dests
+shape_unit Downsample source dests = before_mips (length dests) source.geometry.chunk
+shape_unit Faces source dests = source.geometry.chunk
+shape_unit Links source dests = source.geometry.chunk
+shape_unit Labels source dests = source.geometry.chunk
+shape_unit Relabel source dests = source.geometry.chunk
+shape_unit Count source dests = source.geometry.chunk
+shape_unit Sum source dests = source.geometry.chunk
+shape_unit Remove source dests = source.geometry.chunk
+
+-- How many units a shape has on each axis that no request names; none where the earlier pass has it.
+abbrev pub usual_units : Kind → Option ℕ
+usual_units Xfer = Some 2
+usual_units Downsample = Some 1
+usual_units Faces = Some 2
+usual_units Links = None
+usual_units Labels = None
+usual_units Relabel = None
+usual_units Count = Some 2
+usual_units Sum = None
+usual_units Remove = Some 2
 
 -- the first axis on which the shape is no multiple
 abbrev pub unfit_axis : Point → Point → Option ℕ
@@ -37,55 +79,12 @@ abbrev pub greatest : (ℕ → ℕ) → ℕ → ℕ
 greatest f zero = 0
 greatest f (suc n) = max (greatest f n) (f n)
 
--- how many voxels the chunks that meet a task's box have, as a box of whole chunks
+-- how many voxels the chunks have that meet a box of the shape, as a box of whole chunks
 abbrev pub hull_voxels : Stage → ℕ → ℕ
-hull_voxels s k = count (size_of (hull (chunks_of s.source.geometry) (task_box s k)).space)
+hull_voxels s k = count (size_of (hull (chunks_of s.source.geometry) (cell (cells s) k)).space)
 
 abbrev pub most_tasks : ℕ
 most_tasks = 1000000
 
 abbrev pub most_voxels : ℕ
 most_voxels = 2 ^ 24
-
--- ---- what stages read and write, kind by kind; those kinds that are not listed are not made yet, and have nothing
--- the chunks of several scales that meet a box, scale by scale
-abbrev pub chunks_of_all : List Place → Box3 → List (List ℕ)
-chunks_of_all [] box = []
-chunks_of_all (place ∷ places) box = chunks_in place box ++ chunks_of_all places box
-
-abbrev pub dirs_of_all : List Place → List (List ℕ)
-dirs_of_all [] = []
-dirs_of_all (place ∷ places) = place.dir ∷ dirs_of_all places
-
--- the output directories: all that a stage writes lies directly in one of them
-abbrev pub dirs_by : Kind → Stage → List (List ℕ)
-dirs_by Xfer s = dirs_of_all s.dests
-dirs_by kind s = []
-
--- the directory whose chunks it takes away
-abbrev pub removed_by : Kind → Stage → Option (List ℕ)
-removed_by Remove s = Some s.source.dir
-removed_by kind s = None
-
--- the paths that a task reads, in order
-abbrev pub inputs_by : Kind → Stage → ℕ → List (List ℕ)
-inputs_by Xfer s k = chunks_in s.source (task_box s k)
-inputs_by kind s k = []
-
--- the paths that a task owns, in order: those that it writes, or takes away
-abbrev pub paths_by : Kind → Stage → ℕ → List (List ℕ)
-paths_by Xfer s k = chunks_of_all s.dests (task_box s k)
-paths_by Remove s k = chunks_in s.source (task_box s k)
-paths_by kind s k = []
-
-abbrev pub output_dirs : Stage → List (List ℕ)
-output_dirs s = dirs_by s.kind s
-
-abbrev pub removed_dir : Stage → Option (List ℕ)
-removed_dir s = removed_by s.kind s
-
-abbrev pub inputs_of : Stage → ℕ → List (List ℕ)
-inputs_of s k = inputs_by s.kind s k
-
-abbrev pub paths_of : Stage → ℕ → List (List ℕ)
-paths_of s k = paths_by s.kind s k

@@ -10,9 +10,7 @@ use Rattle.serde_json.proofs.Numbers.{number_of-decimal}
 use Rattle.ig_space.specs.declared.point.Point.{Point}
 use Rattle.ig_space.specs.declared.point.Box3.{Box3}
 use Rattle.ig_space.specs.declared.task_id.TaskId.{TaskId}
-use Rattle.ig_space.specs.Cells.{cell-within}
 use Rattle.ig_space.specs.Geometry.{Fits-from}
-use Rattle.ig_space.specs.Grid.{IsGrid, IsWithin, space_of}
 use Rattle.ig_info.specs.Whole.{parsed}
 use Rattle.ig_record.specs.declared.stage.Stage.{Stage}
 use Rattle.ig_record.specs.ReadBack.{parsed-compact}
@@ -20,29 +18,11 @@ use Rattle.ig_record.specs.Reading.{filed, id_of, number_of, small_of, task_in, 
 use Rattle.ig_record.specs.Record.{task_data, task_text}
 use Rattle.ig_record.specs.RecordBack.{point-back, IsBack}
 use Rattle.ig_record.specs.Sound.{is_sound}
-use Rattle.ig_record.specs.SoundFacts.{IsSmall, IsSound-from}
-use Rattle.ig_record.specs.Stage.{most_tasks, task_box, task_count, task_grid}
+use Rattle.ig_record.specs.SoundFacts.{IsSmall}
+use Rattle.ig_record.specs.SoundStages.{IsSound-from, task-within}
+use Rattle.ig_record.specs.Stage.{most_tasks, task_box, task_count}
 
 -- ---- the box of a task
-
-pub tasks-IsGrid : (s : Stage) → is_sound s ≡ true → IsGrid (task_grid s)
-tasks-IsGrid s h =
-    let all = IsSound-from s h in
-    let f = Fits-from s.source.geometry all.fits in
-    record {
-      x_step = all.shape.sides.x;
-      y_step = all.shape.sides.y;
-      z_step = all.shape.sides.z;
-      x_order = omega arith;
-      y_order = omega arith;
-      z_order = omega arith;
-      x_small = f.x_ends;
-      y_small = f.y_ends;
-      z_small = f.z_ends;
-    }
-
-pub task-within : (s : Stage) (k : ℕ) → is_sound s ≡ true → k < task_count s → IsWithin (task_box s k) (space_of s.source.geometry)
-task-within s k h below = cell-within (task_grid s) (tasks-IsGrid s h) k below
 
 record HasSmallCorners (b : Box3) : Type 0 where
   pub hi : IsSmall b.hi

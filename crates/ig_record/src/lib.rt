@@ -4,9 +4,14 @@
 
 mod error;
 mod filed;
+mod files;
+mod geometries;
 mod hulls;
+mod lawful;
+mod layers;
 mod lists;
 mod members;
+mod neighbours;
 mod parse;
 mod read_place;
 mod recorded;
@@ -18,7 +23,7 @@ mod writing;
 
 pub use error::RecordError;
 pub use filed::read_task;
-pub use lists::{dirs, inputs, paths, removed};
+pub use lists::{dirs, inputs, paths, removed, writes_in};
 pub use recorded::read_stage;
 pub use soundness::{MOST_TASKS, MOST_VOXELS};
 pub use stage::{InfoFile, Kind, Places, Stage};

@@ -18,8 +18,9 @@ use Rattle.ig_record.specs.declared.stage.Kind.{Kind}
 use Rattle.ig_record.specs.declared.stage.Kind.TheVariants.{Xfer, Remove}
 use Rattle.ig_record.specs.declared.stage.Stage.{Stage}
 use Rattle.ig_record.specs.Sound.{is_sound}
-use Rattle.ig_record.specs.SoundKinds.{IsSoundKind, is_xfer, is_remove, sound-kind}
-use Rattle.ig_record.specs.Stage.{dirs_by, dirs_of_all, output_dirs, removed_by, removed_dir}
+use Rattle.ig_record.specs.SoundRows.{IsSoundKind, is_xfer, is_remove}
+use Rattle.ig_record.specs.SoundStages.{sound-kind}
+use Rattle.ig_record.specs.Columns.{dirs_by, dirs_of_all, output_dirs, removed_by, removed_dir}
 use Rattle.ig_rule.specs.Dirs.{LiesIn}
 use Rattle.ig_rule.specs.DirPaths.{dir_is, dir_within, listed_in}
 use Rattle.ig_rule.specs.Facts.{IsInfoName, IsPath, StageLaws}

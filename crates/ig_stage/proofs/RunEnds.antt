@@ -19,7 +19,8 @@ use Rattle.ig_meaning.specs.RefusedTasks.{refused-none}
 use Rattle.ig_meaning.specs.Sequential.{sequential-wanted}
 use Rattle.ig_record.specs.declared.stage.Stage.{Stage}
 use Rattle.ig_record.specs.declared.stage.InfoFile.{InfoFile}
-use Rattle.ig_record.specs.Stage.{inputs_of, task_box, task_count, task_grid}
+use Rattle.ig_record.specs.Columns.{inputs_of}
+use Rattle.ig_record.specs.Stage.{task_box, task_count, task_grid}
 use Rattle.ig_meaning.specs.Stage.{file_of, info_files, input_count, input_path, planned_puts, run_tasks}
 use Rattle.ig_meaning.specs.TaskBoxes.{task_box-within, task_grid-IsGrid}
 use Rattle.ig_meaning.specs.Tasks.{fault_of_tasks-goes_on, fault_of_tasks-refuses, fault_of_tasks-unread, files-stop, inputs_of-copy, length-listed, puts-grow, puts-stop, run_tasks-next, run_tasks-refuses}

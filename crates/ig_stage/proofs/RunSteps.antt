@@ -15,7 +15,8 @@ use Rattle.ig_meaning.specs.Fault.{Find, fault_of_tasks, finds_in, finds_of}
 use Rattle.ig_record.specs.declared.stage.Stage.{Stage}
 use Rattle.ig_record.specs.declared.stage.InfoFile.{InfoFile}
 use Rattle.ig_record.specs.declared.stage.Kind.TheVariants.{Xfer}
-use Rattle.ig_record.specs.Stage.{inputs_of, task_count}
+use Rattle.ig_record.specs.Columns.{inputs_of}
+use Rattle.ig_record.specs.Stage.{task_count}
 use Rattle.ig_meaning.specs.Stage.{flattened, info_files, run_tasks}
 use Rattle.ig_meaning.specs.Tasks.{fault_of_tasks-goes_on, run_tasks-next}
 use Rattle.ig_stage.specs.Did.{Did, after_all, moments_from}

@@ -11,7 +11,7 @@ use Rattle.ig_record.specs.declared.stage.InfoFile.{InfoFile}
 use Rattle.ig_record.specs.declared.stage.Kind.{Kind}
 use Rattle.ig_record.specs.declared.stage.Kind.TheVariants.{Remove}
 use Rattle.ig_record.specs.declared.stage.Stage.{Stage}
-use Rattle.ig_record.specs.Stage.{output_dirs, removed_by, removed_dir}
+use Rattle.ig_record.specs.Columns.{output_dirs, removed_by, removed_dir}
 use Rattle.ig_rule.specs.Facts.{Facts}
 use Rattle.ig_task.specs.Facts.{facts_of}
 

@@ -6,14 +6,15 @@ use Rattle.std.proofs.lemmas.Slice.Eq.{bytes_eq-Decides}
 use Rattle.std.specs.Str.{bytes_eq, is_utf8}
 use Rattle.ig_space.specs.declared.point.Point.{Point}
 use Rattle.ig_space.specs.Geometry.{Fits-from, geometry_fits, label_len}
+use Rattle.ig_space.specs.Grid.{cell_count}
 use Rattle.ig_space.specs.Path.{is_path, joined}
 use Rattle.ig_layer.specs.Faults.{or_else}
 use Rattle.ig_record.specs.declared.stage.InfoFile.{InfoFile}
 use Rattle.ig_record.specs.declared.stage.Kind.TheVariants.{Xfer}
 use Rattle.ig_record.specs.declared.stage.Stage.{Stage}
-use Rattle.ig_record.specs.Sound.{before_name, has_key, has_layers, has_members, has_shape, has_tasks, is_copy, is_info_of, is_side, is_sound, is_word, same_point, same_voxels, some_split}
+use Rattle.ig_record.specs.Sound.{before_name, has_come, has_key, has_layers, has_members, has_shape, has_split, has_tasks, is_copy, is_info_of, is_lawful, is_scale, is_side, is_sound, is_word, same_box, same_point, same_voxels, some_split}
 use Rattle.ig_record.specs.SoundFacts.{HasSides}
-use Rattle.ig_record.specs.Stage.{greatest, hull_voxels, most_tasks, most_voxels, shape_unit, task_count, unfit_axis}
+use Rattle.ig_record.specs.Stage.{cells, greatest, hull_voxels, most_tasks, most_voxels, shape_unit, unfit_axis}
 use Rattle.ig_meaning.specs.Refusal.{Refusal, ShapeUnfit, TooManyTasks, TaskTooLarge}
 use Rattle.ig_meaning.specs.Stage.{too_large_task, too_many_tasks, unfit, unfit_shape}
 use Rattle.ig_stage.specs.Drafts.{CanRun, IsDraft}
@@ -89,31 +90,30 @@ module _ (s : Stage) (d : IsDraft s) where
   voxels-hold =
       let g = s.source.geometry in
       let h = d.dest.geometry in
-      and_from (same_point g.offset h.offset) (same_point g.size h.size && label_len g.width == label_len h.width) (point-holds g.offset h.offset d.offset)
-      (and_from (same_point g.size h.size) (label_len g.width == label_len h.width) (point-holds g.size h.size d.size)
-      (eq-eqb (label_len g.width) (label_len h.width) (ap label_len (sym d.width))))
+      and_from (same_box g h) (label_len g.width == label_len h.width)
+      (and_from (same_point g.offset h.offset) (same_point g.size h.size) (point-holds g.offset h.offset d.offset) (point-holds g.size h.size d.size))
+      (eq-eqb (label_len g.width) (label_len h.width) (ap label_len (sym d.width)))
 
   copy-holds : is_copy d.key s.source s.dests s.info ≡ true
   copy-holds =
       ap (λ dests. is_copy d.key s.source dests s.info) d.dests ∙ ap (is_copy d.key s.source (d.dest ∷ [])) d.has_info
-      ∙ and_from (has_key d.key d.dest.dir) (is_info_of d.key d.dest.dir d.info && (geometry_fits d.dest.geometry && same_voxels s.source.geometry d.dest.geometry))
-      (subst (λ dir. has_key d.key dir ≡ true) (sym d.dest_dir) (key-holds d.to d.key d.to_word))
-      (and_from (is_info_of d.key d.dest.dir d.info) (geometry_fits d.dest.geometry && same_voxels s.source.geometry d.dest.geometry)
-      (subst (λ dir. is_info_of d.key dir d.info ≡ true) (sym d.dest_dir) (info-holds d.to d.key d.info d.info_at d.info_text))
-      (and_from (geometry_fits d.dest.geometry) (same_voxels s.source.geometry d.dest.geometry) d.dest_fits voxels-hold))
+      ∙ and_from (is_scale d.key d.dest && is_info_of d.key d.dest.dir d.info) (same_voxels s.source.geometry d.dest.geometry)
+      (and_from (is_scale d.key d.dest) (is_info_of d.key d.dest.dir d.info)
+      (and_from (has_key d.key d.dest.dir) (geometry_fits d.dest.geometry) (subst (λ dir. has_key d.key dir ≡ true) (sym d.dest_dir) (key-holds d.to d.key d.to_word)) d.dest_fits)
+      (subst (λ dir. is_info_of d.key dir d.info ≡ true) (sym d.dest_dir) (info-holds d.to d.key d.info d.info_at d.info_text)))
+      voxels-hold
 
-  members-hold : has_members s.kind d.key s ≡ true
+  members-hold : has_members s.kind d.from d.key s ≡ true
   members-hold =
-      ap (λ kind. has_members kind d.key s) d.kind
+      ap (λ kind. has_members kind d.from d.key s) d.kind
       ∙ and_from (is_none s.scratch) (is_copy d.key s.source s.dests s.info) (ap is_none d.scratch) copy-holds
 
   layers-hold : has_layers s ≡ true
   layers-hold =
-      let test = λ (layer key : List ℕ). is_word layer && (is_word key && has_members s.kind key s) in
-      subst (λ dir. some_split test [] dir ≡ true) (sym d.source_dir)
-      (split-holds test [] d.from d.key
-      (and_from (is_word d.from) (is_word d.key && has_members s.kind d.key s) d.from_word
-      (and_from (is_word d.key) (has_members s.kind d.key s) d.key_word members-hold)))
+      subst (λ dir. some_split (has_split s) [] dir ≡ true) (sym d.source_dir)
+      (split-holds (has_split s) [] d.from d.key
+      (and_from (is_word d.from) (is_word d.key && has_members s.kind d.from d.key s) d.from_word
+      (and_from (is_word d.key) (has_members s.kind d.from d.key s) d.key_word members-hold)))
 
   module _ (fits : unfit s ≡ None) where
     no_shape : unfit_shape s ≡ None
@@ -131,15 +131,16 @@ module _ (s : Stage) (d : IsDraft s) where
 
     tasks-hold : has_tasks s ≡ true
     tasks-hold =
-        and_from (nat_le (task_count s) most_tasks) (nat_le (greatest (hull_voxels s) (task_count s)) most_voxels)
-        (allowed (nat_le (task_count s) most_tasks) (TooManyTasks (task_count s)) (first-none (too_many_tasks s) (too_large_task s) rest))
-        (allowed (nat_le (greatest (hull_voxels s) (task_count s)) most_voxels) (TaskTooLarge (greatest (hull_voxels s) (task_count s))) (second-none (too_many_tasks s) (too_large_task s) rest))
+        and_from (nat_le (cell_count (cells s)) most_tasks) (nat_le (greatest (hull_voxels s) (cell_count (cells s))) most_voxels)
+        (allowed (nat_le (cell_count (cells s)) most_tasks) (TooManyTasks (cell_count (cells s))) (first-none (too_many_tasks s) (too_large_task s) rest))
+        (allowed (nat_le (greatest (hull_voxels s) (cell_count (cells s))) most_voxels) (TaskTooLarge (greatest (hull_voxels s) (cell_count (cells s)))) (second-none (too_many_tasks s) (too_large_task s) rest))
 
     sound : is_sound s ≡ true
     unfolding is_sound
     sound =
-        and_from (geometry_fits s.source.geometry) (has_layers s && (has_shape s && has_tasks s)) d.source_fits
-        (and_from (has_layers s) (has_shape s && has_tasks s) layers-hold (and_from (has_shape s) (has_tasks s) shape-holds tasks-hold))
+        and_from (has_come s.kind) (is_lawful s) (ap has_come d.kind)
+        (and_from (geometry_fits s.source.geometry) (has_layers s && (has_shape s && has_tasks s)) d.source_fits
+        (and_from (has_layers s) (has_shape s && has_tasks s) layers-hold (and_from (has_shape s) (has_tasks s) shape-holds tasks-hold)))
 
 -- ---- and is a copy that is written elsewhere
 word-short : (text : List ℕ) → is_word text ≡ true → length text ≤ 100

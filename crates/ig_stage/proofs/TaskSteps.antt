@@ -6,7 +6,7 @@ use Rattle.ig_defs.specs.Files.{file_at}
 use Rattle.ig_defs.specs.Log.{Log, files_of}
 use Rattle.ig_meaning.specs.Ending.{Ending, Finished, Refuses, StoreFailed, NoMemory}
 use Rattle.ig_record.specs.declared.stage.Stage.{Stage}
-use Rattle.ig_record.specs.Stage.{inputs_of}
+use Rattle.ig_record.specs.Columns.{inputs_of}
 use Rattle.ig_cutout.specs.declared.types.Output.{Output}
 use Rattle.ig_cutout.specs.Outputs.{output_of}
 use Rattle.ig_stage.specs.Did.{Did}

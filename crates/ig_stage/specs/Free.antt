@@ -3,7 +3,7 @@ use Rattle.std.specs.Prelude.{◌≡◌, ℕ, List, None, Some, Ok, slice_get}
 use Rattle.ig_defs.specs.Files.{Files, file_at}
 use Rattle.ig_meaning.specs.Plan.{planned}
 use Rattle.ig_meaning.specs.Words.{Request}
-use Rattle.ig_record.specs.Stage.{output_dirs}
+use Rattle.ig_record.specs.Columns.{output_dirs}
 use Rattle.ig_record.specs.declared.stage.InfoFile.{InfoFile}
 use Rattle.ig_record.specs.declared.stage.Stage.{Stage}
 use Rattle.ig_rule.specs.Dirs.{LiesIn}

@@ -8,7 +8,8 @@ use Rattle.ig_defs.specs.Own.{File, put_all, puts_of, reads_of}
 use Rattle.ig_space.specs.Chunks.{listed}
 use Rattle.ig_meaning.specs.Refusal as refusal
 use Rattle.ig_record.specs.declared.stage.Stage.{Stage}
-use Rattle.ig_record.specs.Stage.{inputs_of, task_count}
+use Rattle.ig_record.specs.Columns.{inputs_of}
+use Rattle.ig_record.specs.Stage.{task_count}
 use Rattle.ig_meaning.specs.Stage.{flattened, info_files, run_tasks, task_files, task_refusal}
 use Rattle.ig_meaning.specs.Ending.{Ending, Finished, Refuses, StoreFailed, NoMemory, HasRun}
 use Rattle.ig_meaning.specs.Fault.{Find, fault_of_tasks, finds_of}

@@ -8,7 +8,7 @@ ghost use Rattle.ig_info.specs.Reading.{info_in};
 ghost use Rattle.ig_info.specs.Scale.{scale_fits};
 ghost use Rattle.ig_info.specs.Info.{InfoData};
 ghost use Rattle.ig_record.specs.SoundFacts.{HasSides as HasSome, IsSmall};
-ghost use Rattle.ig_record.specs.Stage.{most_tasks, most_voxels, task_count};
+ghost use Rattle.ig_record.specs.Stage.{cells, most_tasks, most_voxels};
 ghost use Rattle.ig_meaning.specs.Stage.{unfit};
 ghost use Rattle.ig_meaning.specs.Plan.{info_path, new_encoding as new_encoding_of, new_scale as new_scale_of, place_in, planned, twice as twice_of, with_dest};
 ghost use Rattle.ig_stage.specs.Errors.{ending_of_make};
@@ -218,7 +218,7 @@ pub fn check_fit(stage: &Stage) -> Result<(), MakeError>
     if let Some(axis) = stage.unfit_axis() {
         return Err(MakeError::ShapeUnfit { axis });
     }
-    let count = stage.task_count();
+    let count = stage.cell_count();
     if count > MOST_TASKS {
         return Err(MakeError::TooManyTasks { count });
     }

@@ -1,7 +1,8 @@
 //! Runs a copy that is planned: puts its info, and then, task by task, reads the inputs and puts the outputs.
 ghost use Rattle.std.specs.Prelude.{◌≡◌, ◌<◌, [], ◌∷◌, Some, IfOk};
 ghost use Rattle.ig_record.specs.declared.stage.InfoFile as declared;
-ghost use Rattle.ig_record.specs.Stage.{inputs_of, task_count};
+ghost use Rattle.ig_record.specs.Columns.{inputs_of};
+ghost use Rattle.ig_record.specs.Stage.{task_count};
 ghost use Rattle.ig_cutout.specs.Inputs.{paths_of};
 ghost use Rattle.ig_stage.specs.Drafts.{CanRun};
 ghost use Rattle.ig_stage.specs.Errors.{HasCauseFor};

@@ -1,5 +1,5 @@
 -- What a task makes of what was found of its inputs.
-use Rattle.std.proofs.Common.{arith, ◌≡◌, ◌≢◌, ℕ, zero, suc, Bool, true, false, if◌then◌else◌, List, [], ◌∷◌, ◌++◌, Option, None, Some, is_none, option_map, map, refl, sym, ap, subst, ◌∙◌}
+use Rattle.std.proofs.Common.{arith, ◌≡◌, ◌≢◌, ℕ, zero, suc, Bool, true, false, if◌then◌else◌, List, [], ◌∷◌, ◌++◌, Option, None, Some, is_none, option_map, map, refl, sym, ap, subst, true≢false, ◌∙◌}
 use Rattle.std.proofs.lemmas.List.{append-nil}
 use Rattle.ig_space.specs.declared.place.Place.{Place}
 use Rattle.ig_space.specs.Chunks.{listed}
@@ -10,9 +10,12 @@ use Rattle.ig_layer.specs.Texts.{files_in}
 use Rattle.ig_record.specs.declared.stage.Kind.{Kind}
 use Rattle.ig_record.specs.declared.stage.Kind.TheVariants.{Xfer, Remove}
 use Rattle.ig_record.specs.declared.stage.Stage.{Stage}
-use Rattle.ig_record.specs.Sound.{is_sound}
-use Rattle.ig_record.specs.SoundKinds.{IsCopyOf, IsSoundKind, is_xfer, is_remove, sound-kind}
-use Rattle.ig_record.specs.Stage.{inputs_of, paths_of as owned_paths, task_box}
+use Rattle.ig_record.specs.Sound.{has_come, is_sound}
+use Rattle.ig_record.specs.SoundKinds.{IsCopyOf}
+use Rattle.ig_record.specs.SoundRows.{IsSoundKind, is_xfer, is_remove}
+use Rattle.ig_record.specs.SoundStages.{sound-come, sound-kind}
+use Rattle.ig_record.specs.Columns.{inputs_of, paths_of as owned_paths}
+use Rattle.ig_record.specs.Stage.{task_box}
 use Rattle.ig_meaning.specs.Copies.{IsCopy}
 use Rattle.ig_meaning.specs.Refusal as refusal
 use Rattle.ig_meaning.specs.Refusal.{Refusal, refusal_of}
@@ -42,12 +45,9 @@ copies_to s sound copies dest one =
     let same : copy.dest ≡ dest = cc (copy.dests_are, one) in
     subst (λ d. IsCopy s d copy.put) same (sound-copy s sound copies copy)
 
-removal_by : (s : Stage) → s.kind ≢ Xfer → IsSoundKind s → s.kind ≡ Remove
-removal_by s other (is_xfer kind scratch copy) = absurd (other kind)
-removal_by s other (is_remove kind scratch removal) = kind
-
-pub removes_else : (s : Stage) → is_sound s ≡ true → s.kind ≢ Xfer → s.kind ≡ Remove
-removes_else s sound other = removal_by s other (sound-kind s sound)
+-- of other kinds no stage is sound
+pub not_come : (s : Stage) → is_sound s ≡ true → has_come s.kind ≡ false → ⊥
+not_come s sound other = true≢false (sym (sound-come s sound) ∙ other)
 
 -- ---- the first input that was not found
 -- the first of the paths where nothing is

@@ -13,7 +13,8 @@ use Rattle.ig_record.specs.declared.stage.Kind.TheVariants.{Xfer}
 use Rattle.ig_record.specs.declared.stage.Stage.{Stage}
 use Rattle.ig_record.specs.Reading.{record_in}
 use Rattle.ig_record.specs.Record.{task_text}
-use Rattle.ig_record.specs.Stage.{output_dirs, paths_of, removed_dir, task_count}
+use Rattle.ig_record.specs.Columns.{output_dirs, paths_of, removed_dir}
+use Rattle.ig_record.specs.Stage.{task_count}
 use Rattle.ig_meaning.specs.Stage.{file_of, wanted_volume}
 use Rattle.ig_rule.specs.Facts.{Facts, Reader, Reading}
 

@@ -11,9 +11,11 @@ use Rattle.ig_record.specs.declared.stage.Stage.{Stage}
 use Rattle.ig_record.specs.Reading.{record_in}
 use Rattle.ig_record.specs.ReadingLaws.{record_in-IsRecord}
 use Rattle.ig_record.specs.Sound.{is_sound}
-use Rattle.ig_record.specs.SoundFacts.{IsSound, IsSound-from}
-use Rattle.ig_record.specs.SoundKinds.{IsCopyOf, IsRemoval, IsSoundKind, is_remove, is_xfer, sound-kind}
-use Rattle.ig_record.specs.Stage.{output_dirs, task_count}
+use Rattle.ig_record.specs.SoundStages.{IsSound, IsSound-from, sound-kind}
+use Rattle.ig_record.specs.SoundKinds.{IsCopyOf, IsRemoval}
+use Rattle.ig_record.specs.SoundRows.{IsSoundKind, is_remove, is_xfer}
+use Rattle.ig_record.specs.Columns.{output_dirs}
+use Rattle.ig_record.specs.Stage.{task_count}
 use Rattle.ig_meaning.specs.Stage.{file_of, wanted_volume}
 use Rattle.ig_cutout.specs.declared.types.Output.{Output}
 use Rattle.ig_rule.specs.DirPaths.{dir_of-segment, dir_within}

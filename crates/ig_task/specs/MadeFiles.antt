@@ -17,9 +17,10 @@ use Rattle.ig_layer.specs.Texts.{all_listed, chunk_file, chunk_text, file_if, fi
 use Rattle.ig_record.specs.declared.stage.Kind.{Kind}
 use Rattle.ig_record.specs.declared.stage.Kind.TheVariants.{Xfer, Remove}
 use Rattle.ig_record.specs.declared.stage.Stage.{Stage}
-use Rattle.ig_record.specs.SoundFacts.{IsSound}
+use Rattle.ig_record.specs.SoundStages.{IsSound}
 use Rattle.ig_record.specs.SoundKinds.{IsCopyOf}
-use Rattle.ig_record.specs.Stage.{paths_of, task_box, task_count, task_grid}
+use Rattle.ig_record.specs.Columns.{paths_of}
+use Rattle.ig_record.specs.Stage.{task_box, task_count, task_grid}
 use Rattle.ig_meaning.specs.Stage.{appended, files_of_dests, task_files, wanted_volume}
 use Rattle.ig_cutout.specs.declared.types.Output.{Output}
 use Rattle.ig_cutout.specs.Outputs.{output_of}

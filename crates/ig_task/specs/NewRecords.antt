@@ -12,7 +12,7 @@ use Rattle.ig_record.specs.declared.stage.Stage.{Stage}
 use Rattle.ig_record.specs.ReadingLaws.{IsRecord-record_in}
 use Rattle.ig_record.specs.Record.{record_text}
 use Rattle.ig_record.specs.Sound.{is_sound}
-use Rattle.ig_record.specs.Stage.{output_dirs}
+use Rattle.ig_record.specs.Columns.{output_dirs}
 use Rattle.ig_meaning.specs.QueueMaking.{record_path}
 use Rattle.ig_meaning.specs.Taken.{taken_by}
 use Rattle.ig_rule.specs.Facts.{Facts, KindLaws, LiesInOne}

@@ -4,7 +4,7 @@ use Rattle.ig_layer.specs.Layer.{Reading}
 use Rattle.ig_record.specs.declared.stage.Kind.{Kind}
 use Rattle.ig_record.specs.declared.stage.Kind.TheVariants.{Remove}
 use Rattle.ig_record.specs.declared.stage.Stage.{Stage}
-use Rattle.ig_record.specs.Stage.{paths_of}
+use Rattle.ig_record.specs.Columns.{paths_of}
 use Rattle.ig_meaning.specs.Stage.{task_files}
 use Rattle.ig_cutout.specs.declared.types.Output.{Output}
 use Rattle.ig_cutout.specs.Outputs.{output_of}

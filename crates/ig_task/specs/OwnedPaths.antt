@@ -9,10 +9,12 @@ use Rattle.ig_space.specs.Grid.{space_of}
 use Rattle.ig_record.specs.declared.stage.Kind.{Kind}
 use Rattle.ig_record.specs.declared.stage.Kind.TheVariants.{Xfer, Remove}
 use Rattle.ig_record.specs.declared.stage.Stage.{Stage}
-use Rattle.ig_record.specs.SoundFacts.{IsDir, IsSound}
+use Rattle.ig_record.specs.SoundFacts.{IsDir}
+use Rattle.ig_record.specs.SoundStages.{IsSound, tasks-IsGrid}
 use Rattle.ig_record.specs.SoundKinds.{IsCopyOf}
-use Rattle.ig_record.specs.Stage.{chunks_of_all, dirs_by, dirs_of_all, output_dirs, paths_by, paths_of, removed_by, removed_dir, shape_unit, task_box, task_count, task_grid}
-use Rattle.ig_meaning.specs.TaskBoxes.{IsWhole, task_box-whole, tasks-IsGrid, unfit_axis-none}
+use Rattle.ig_record.specs.Columns.{chunks_of_all, dirs_by, dirs_of_all, output_dirs, paths_by, paths_of, removed_by, removed_dir}
+use Rattle.ig_record.specs.Stage.{shape_unit, task_box, task_count, task_grid, task_size}
+use Rattle.ig_meaning.specs.TaskBoxes.{IsWhole, task_box-whole, unfit_axis-none}
 use Rattle.ig_rule.specs.Facts.{IsPath}
 use Rattle.ig_task.specs.ChunkPlaces.{IsChunk}
 use Rattle.ig_task.specs.Facts.{facts_of}
@@ -44,10 +46,11 @@ one-task s place owns j k path j_below k_below in_j in_k =
 -- ---- by the kind
 -- a place of the space of the source, with chunks of the unit of the shape
 sound-tiled : (s : Stage) → IsSound s → (place : Place) → IsDir place.dir → geometry_fits place.geometry ≡ true → space_of place.geometry ≡ space_of s.source.geometry
-    → shape_unit s.kind s.source s.dests ≡ place.geometry.chunk → IsTiled place (task_grid s)
-sound-tiled s h place dir fits space unit =
-    let grid = tasks-IsGrid s h.fits h.shape.sides.x h.shape.sides.y h.shape.sides.z in
-    let whole : IsWhole place.geometry.chunk s.shape = subst (λ (u : Point). IsWhole u s.shape) unit (unfit_axis-none (shape_unit s.kind s.source s.dests) s.shape h.shape.fits) in
+    → shape_unit s.kind s.source s.dests ≡ place.geometry.chunk → task_size s.kind s ≡ s.shape → IsTiled place (task_grid s)
+sound-tiled s h place dir fits space unit size =
+    let grid = tasks-IsGrid s h.fits h.shape.sides in
+    let shape : IsWhole place.geometry.chunk s.shape = subst (λ (u : Point). IsWhole u s.shape) unit (unfit_axis-none (shape_unit s.kind s.source s.dests) s.shape h.shape.fits) in
+    let whole : IsWhole place.geometry.chunk (task_size s.kind s) = subst (IsWhole place.geometry.chunk) (sym size) shape in
     record {
       dir = dir;
       fits = fits;
@@ -62,9 +65,10 @@ copy-owns s h is c =
     let dest = c.dest in
     record {
       tiled = sound-tiled s h dest c.is_dest.dir c.is_dest.fits c.is_dest.space
-          (ap (λ (kind : Kind). shape_unit kind s.source s.dests) is ∙ ap (shape_unit Xfer s.source) c.dests_are);
+          (ap (λ (kind : Kind). shape_unit kind s.source s.dests) is ∙ ap (shape_unit Xfer s.source) c.dests_are)
+          (ap (λ (kind : Kind). task_size kind s) is);
       paths = λ k.
-          ap (λ (kind : Kind). paths_by kind s k) is ∙ ap (λ (dests : List Place). chunks_of_all dests (task_box s k)) c.dests_are
+          ap (λ (kind : Kind). paths_by kind s k) is ∙ ap (λ (dests : List Place). chunks_of_all (λ m. task_box s k) 1 dests) c.dests_are
           ∙ append-nil (chunks_in dest (task_box s k));
     }
 
@@ -77,7 +81,7 @@ copy-makes s is = ap (λ (kind : Kind). is_some (removed_by kind s)) is
 -- a removal owns the chunks of its source
 pub removal-owns : (s : Stage) → IsSound s → s.kind ≡ Remove → Owns s s.source
 removal-owns s h is = record {
-  tiled = sound-tiled s h s.source h.layers.dir h.fits refl (ap (λ (kind : Kind). shape_unit kind s.source s.dests) is);
+  tiled = sound-tiled s h s.source h.layers.dir h.fits refl (ap (λ (kind : Kind). shape_unit kind s.source s.dests) is) (ap (λ (kind : Kind). task_size kind s) is);
   paths = λ k. ap (λ (kind : Kind). paths_by kind s k) is;
 }
 

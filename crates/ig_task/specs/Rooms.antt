@@ -11,8 +11,9 @@ use Rattle.ig_record.specs.declared.stage.Kind.{Kind}
 use Rattle.ig_record.specs.declared.stage.Kind.TheVariants.{Xfer, Remove}
 use Rattle.ig_record.specs.declared.stage.Stage.{Stage}
 use Rattle.ig_record.specs.Sound.{is_sound}
-use Rattle.ig_record.specs.SoundKinds.{IsSoundKind, is_xfer, is_remove, sound-kind}
-use Rattle.ig_record.specs.Stage.{output_dirs, removed_by, removed_dir}
+use Rattle.ig_record.specs.SoundRows.{IsSoundKind, is_xfer, is_remove}
+use Rattle.ig_record.specs.SoundStages.{sound-kind}
+use Rattle.ig_record.specs.Columns.{output_dirs, removed_by, removed_dir}
 use Rattle.ig_meaning.specs.Plan.{planned}
 use Rattle.ig_meaning.specs.QueueApart.{outside-layer, planned-copy}
 use Rattle.ig_meaning.specs.QueueWords.{is_apart}

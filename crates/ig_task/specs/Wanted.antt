@@ -3,7 +3,7 @@ use Rattle.std.specs.Prelude.{◌≡◌, ℕ, true, false, List, None, Some, is_
 use Rattle.std.specs.List.{All}
 use Rattle.ig_layer.specs.Layer.{Reading}
 use Rattle.ig_record.specs.declared.stage.Stage.{Stage}
-use Rattle.ig_record.specs.Stage.{paths_of, removed_dir}
+use Rattle.ig_record.specs.Columns.{paths_of, removed_dir}
 use Rattle.ig_cutout.specs.declared.types.Output.{Output}
 use Rattle.ig_task.specs.Facts.{wanted_text}
 use Rattle.ig_task.specs.Outputs.{path_of}

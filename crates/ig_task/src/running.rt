@@ -3,7 +3,8 @@ ghost use Rattle.std.specs.Prelude.{◌≡◌, ◌<◌, [], ◌∷◌, IfOk, IfE
 ghost use Rattle.ig_layer.specs.Layer.{Reading};
 ghost use Rattle.ig_record.specs.declared.stage.Kind.TheVariants.{Xfer};
 ghost use Rattle.ig_record.specs.Sound.{is_sound};
-ghost use Rattle.ig_record.specs.Stage.{inputs_of, paths_of, task_count};
+ghost use Rattle.ig_record.specs.Columns.{inputs_of, paths_of};
+ghost use Rattle.ig_record.specs.Stage.{task_count};
 ghost use Rattle.ig_meaning.specs.Stage.{task_refusal};
 ghost use Rattle.ig_cutout.specs.Inputs.{HoldsAll, paths_of as input_paths};
 ghost use Rattle.ig_task.specs.Answers.{missing_path, MakesOutputs, RefusesTask};
@@ -83,6 +84,8 @@ pub fn run(alloc: Global, stage: &Stage, task: u32, given: &Inputs) -> Result<Ou
 {
     match stage.kind {
         Kind::Xfer => copy(alloc, stage, task, given),
-        _ => Ok(removals(alloc, stage, task)?),
+        Kind::Remove => Ok(removals(alloc, stage, task)?),
+        Kind::Downsample | Kind::Faces | Kind::Links | Kind::Labels => unreachable!(),
+        Kind::Relabel | Kind::Count | Kind::Sum => unreachable!(),
     }
 }

@@ -20,3 +20,4 @@ pub mod Handings
 pub mod Runs
 mod Keeping
 pub mod Tries
+mod Removals

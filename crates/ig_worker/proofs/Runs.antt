@@ -15,8 +15,10 @@ use Rattle.ig_record.specs.declared.stage.Kind.{Kind}
 use Rattle.ig_record.specs.declared.stage.Kind.TheVariants.{Xfer}
 use Rattle.ig_record.specs.declared.stage.Stage.{Stage}
 use Rattle.ig_record.specs.Sound.{is_sound}
-use Rattle.ig_record.specs.SoundKinds.{IsSoundKind, is_xfer, is_remove, sound-kind}
-use Rattle.ig_record.specs.Stage.{inputs_of, removed_dir, task_box}
+use Rattle.ig_record.specs.SoundRows.{IsSoundKind, is_xfer, is_remove}
+use Rattle.ig_record.specs.SoundStages.{sound-kind}
+use Rattle.ig_record.specs.Columns.{inputs_of, removed_dir}
+use Rattle.ig_record.specs.Stage.{task_box}
 use Rattle.ig_meaning.specs.Refusal as refusal
 use Rattle.ig_meaning.specs.Refusal.{Refusal, refusal_of}
 use Rattle.ig_meaning.specs.Stage.{absent_in, first_absent, input_count, input_path, refusal_by, task_refusal}

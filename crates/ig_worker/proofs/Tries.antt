@@ -5,7 +5,7 @@ use Rattle.std.proofs.Common.{arith, nat_le, ◌≡◌, ◌≤◌, ◌<◌, ℕ,
 use Rattle.ig_defs.specs.declared.queue_name.QueueName.{QueueName}
 use Rattle.ig_defs.specs.QueueNames.{queue_fits}
 use Rattle.ig_record.specs.declared.stage.Stage.{Stage}
-use Rattle.ig_record.specs.Stage.{inputs_of}
+use Rattle.ig_record.specs.Columns.{inputs_of}
 use Rattle.ig_worker.specs.declared.notes.Notes.{Notes}
 use Rattle.ig_worker.specs.declared.phase.Phase.{Phase}
 use Rattle.ig_worker.specs.declared.turn.Turn.TheVariants.{On}

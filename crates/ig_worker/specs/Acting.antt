@@ -11,7 +11,7 @@ use Rattle.ig_defs.specs.QueueNames.{task_of}
 use Rattle.ig_rule.specs.Went.{Idled}
 use Rattle.ig_cutout.specs.declared.types.Output.{Output}
 use Rattle.ig_record.specs.declared.stage.Stage.{Stage}
-use Rattle.ig_record.specs.Stage.{paths_of}
+use Rattle.ig_record.specs.Columns.{paths_of}
 use Rattle.ig_task.specs.Outputs.{path_of}
 use Rattle.ig_worker.specs.declared.notes.Notes.{Notes}
 use Rattle.ig_worker.specs.declared.turn.Line.TheVariants as line

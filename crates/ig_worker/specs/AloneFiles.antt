@@ -12,8 +12,10 @@ use Rattle.ig_cutout.specs.declared.types.Output.{Output}
 use Rattle.ig_record.specs.declared.stage.Kind.{Kind}
 use Rattle.ig_record.specs.declared.stage.Stage.{Stage}
 use Rattle.ig_record.specs.Sound.{is_sound}
-use Rattle.ig_record.specs.SoundKinds.{IsSoundKind, is_remove, is_xfer, sound-kind}
-use Rattle.ig_record.specs.Stage.{inputs_by, inputs_of, task_box}
+use Rattle.ig_record.specs.SoundRows.{IsSoundKind, is_remove, is_xfer}
+use Rattle.ig_record.specs.SoundStages.{sound-kind}
+use Rattle.ig_record.specs.Columns.{inputs_by, inputs_of}
+use Rattle.ig_record.specs.Stage.{task_box}
 use Rattle.ig_meaning.specs.Refusal.{refusal_of}
 use Rattle.ig_meaning.specs.Stage.{absent_in, first_absent, input_count, input_path, task_refusal}
 use Rattle.ig_meaning.specs.Tasks.{inputs_of-copy, task_refusal-copy}

@@ -13,7 +13,8 @@ use Rattle.ig_defs.specs.QueueNames.{task_of}
 use Rattle.ig_cutout.specs.declared.types.Output.{Output}
 use Rattle.ig_record.specs.declared.stage.Stage.{Stage}
 use Rattle.ig_record.specs.Sound.{is_sound}
-use Rattle.ig_record.specs.Stage.{inputs_of, paths_of, removed_dir, task_count}
+use Rattle.ig_record.specs.Columns.{inputs_of, paths_of, removed_dir}
+use Rattle.ig_record.specs.Stage.{task_count}
 use Rattle.ig_rule.specs.Facts.{Facts, KeepsChunks, StageLaws}
 use Rattle.ig_rule.specs.Keeps.{keep_laws}
 use Rattle.ig_rule.specs.QueueFiles.{Done, IsApartFrom, queue_of}

@@ -13,7 +13,7 @@ use Rattle.ig_cutout.specs.declared.types.Input.{Input}
 use Rattle.ig_cutout.specs.declared.types.Output.{Output}
 use Rattle.ig_cutout.specs.Inputs.{HoldsAll}
 use Rattle.ig_record.specs.declared.stage.Stage.{Stage}
-use Rattle.ig_record.specs.Stage.{inputs_of, paths_of}
+use Rattle.ig_record.specs.Columns.{inputs_of, paths_of}
 use Rattle.ig_meaning.specs.Refusal.{Refusal}
 use Rattle.ig_meaning.specs.Stage.{task_refusal}
 use Rattle.ig_rule.specs.Known.{IsKnownLease}

@@ -11,7 +11,7 @@ use Rattle.ig_defs.specs.Log.{after}
 use Rattle.ig_defs.specs.QueueNames.{queue_fits}
 use Rattle.ig_cutout.specs.declared.types.Input.{Input}
 use Rattle.ig_record.specs.declared.stage.Stage.{Stage}
-use Rattle.ig_record.specs.Stage.{inputs_of}
+use Rattle.ig_record.specs.Columns.{inputs_of}
 use Rattle.ig_rule.specs.QueueFiles.{Queued, queue_of}
 use Rattle.ig_rule.specs.QueueSteps.{SameOutside, holds, queue_of-fits}
 use Rattle.ig_rule.specs.Sound.{Sound}

@@ -15,7 +15,7 @@ use Rattle.ig_cutout.specs.Inputs.{path_of as input_path, paths_of as input_path
 use Rattle.ig_record.specs.declared.stage.Stage.{Stage}
 use Rattle.ig_record.specs.Reading.{record_in}
 use Rattle.ig_record.specs.ReadingLaws.{record_in-IsRecord}
-use Rattle.ig_record.specs.Stage.{inputs_of, paths_of}
+use Rattle.ig_record.specs.Columns.{inputs_of, paths_of}
 use Rattle.ig_queue.specs.Candidates.{IsCandidate}
 use Rattle.ig_worker.specs.declared.notes.Notes.{Notes}
 use Rattle.ig_worker.specs.declared.phase.Phase.{Phase}

@@ -7,7 +7,8 @@ use Rattle.std.proofs.lemmas.Option.{same_Some}
 use Rattle.std.proofs.lemmas.Slice.Eq.{bytes_eq-Decides}
 use Rattle.ig_defs.specs.declared.queue_name.QueueName.{QueueName}
 use Rattle.ig_record.specs.declared.stage.Stage.{Stage}
-use Rattle.ig_record.specs.Stage.{output_dirs, removed_dir, task_count}
+use Rattle.ig_record.specs.Columns.{output_dirs, removed_dir}
+use Rattle.ig_record.specs.Stage.{task_count}
 use Rattle.ig_rule.specs.Known.{KeptStage}
 use Rattle.ig_rule.specs.Stages.{Records, Clear, IsSpared}
 use Rattle.ig_task.specs.Facts.{facts_of}

@@ -12,7 +12,7 @@ use Rattle.ig_cutout.specs.declared.types.Output.{Output}
 use Rattle.ig_meaning.specs.QueueMaking.{record_path, stages_dir}
 use Rattle.ig_record.specs.declared.stage.Stage.{Stage}
 use Rattle.ig_record.specs.Reading.{record_in}
-use Rattle.ig_record.specs.Stage.{inputs_of}
+use Rattle.ig_record.specs.Columns.{inputs_of}
 use Rattle.ig_rule.specs.Facts.{Facts}
 use Rattle.ig_rule.specs.Prefixes.{legal_sound}
 use Rattle.ig_rule.specs.QueueFiles.{Record, queue_of}

@@ -10,7 +10,7 @@ use Rattle.ig_cutout.specs.declared.types.Output.{Output}
 use Rattle.ig_cutout.specs.Inputs.{paths_of as input_paths}
 use Rattle.ig_record.specs.declared.stage.Stage.{Stage}
 use Rattle.ig_record.specs.Sound.{is_sound}
-use Rattle.ig_record.specs.Stage.{inputs_of, paths_of, removed_dir}
+use Rattle.ig_record.specs.Columns.{inputs_of, paths_of, removed_dir}
 use Rattle.ig_task.specs.Outputs.{path_of}
 use Rattle.ig_worker.specs.declared.notes.Notes.{Notes}
 use Rattle.ig_worker.specs.declared.phase.Phase.{Phase}

@@ -16,9 +16,10 @@ use Rattle.ig_cutout.specs.Inputs.{HoldsAll, paths_of}
 use Rattle.ig_record.specs.declared.stage.Kind.{Kind}
 use Rattle.ig_record.specs.declared.stage.Stage.{Stage}
 use Rattle.ig_record.specs.Sound.{is_sound}
-use Rattle.ig_record.specs.SoundFacts.{IsSound-from}
-use Rattle.ig_record.specs.SoundKinds.{IsSoundKind, is_xfer, is_remove, sound-kind}
-use Rattle.ig_record.specs.Stage.{inputs_by, inputs_of, task_box, task_count}
+use Rattle.ig_record.specs.SoundStages.{IsSound-from, sound-kind}
+use Rattle.ig_record.specs.SoundRows.{IsSoundKind, is_xfer, is_remove}
+use Rattle.ig_record.specs.Columns.{inputs_by, inputs_of}
+use Rattle.ig_record.specs.Stage.{task_box, task_count}
 use Rattle.ig_meaning.specs.SoundCopies.{sound-copy}
 use Rattle.ig_meaning.specs.Stage.{input_count, input_path}
 use Rattle.ig_meaning.specs.TaskBoxes.{task_box-within}

@@ -13,7 +13,7 @@ use Rattle.ig_defs.specs.Puts.{file_at-put}
 use Rattle.ig_defs.specs.QueueNames.{task_of}
 use Rattle.ig_cutout.specs.declared.types.Output.{Output}
 use Rattle.ig_record.specs.declared.stage.Stage.{Stage}
-use Rattle.ig_record.specs.Stage.{paths_of, removed_dir}
+use Rattle.ig_record.specs.Columns.{paths_of, removed_dir}
 use Rattle.ig_rule.specs.Effects.{output_apart}
 use Rattle.ig_rule.specs.Facts.{IsPath}
 use Rattle.ig_rule.specs.Keeps.{keep_laws}

@@ -9,7 +9,8 @@ use Rattle.ig_defs.specs.Files.{Files}
 use Rattle.ig_defs.specs.Own.{File}
 use Rattle.ig_cutout.specs.declared.types.Input.{Input}
 use Rattle.ig_record.specs.declared.stage.Stage.{Stage}
-use Rattle.ig_record.specs.Stage.{inputs_of, output_dirs, removed_dir, task_count}
+use Rattle.ig_record.specs.Columns.{inputs_of, output_dirs, removed_dir}
+use Rattle.ig_record.specs.Stage.{task_count}
 use Rattle.ig_rule.specs.Facts.{Facts}
 use Rattle.ig_rule.specs.Known.{KeptStage, Lease, IsKnownLease, IsKnownOf}
 use Rattle.ig_rule.specs.Stages.{Records, Clear, IsSpared}

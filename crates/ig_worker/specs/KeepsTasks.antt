@@ -12,7 +12,7 @@ use Rattle.ig_cutout.specs.declared.types.Input.{Input}
 use Rattle.ig_cutout.specs.declared.types.Output.{Output}
 use Rattle.ig_record.specs.declared.stage.Stage.{Stage}
 use Rattle.ig_record.specs.Sound.{is_sound}
-use Rattle.ig_record.specs.Stage.{inputs_of, paths_of, removed_dir}
+use Rattle.ig_record.specs.Columns.{inputs_of, paths_of, removed_dir}
 use Rattle.ig_rule.specs.Known.{IsKnownLease, IsOutput}
 use Rattle.ig_rule.specs.Stages.{Records, stages_in}
 use Rattle.ig_task.specs.Facts.{facts_of, is_chunk_of, stage_reader}

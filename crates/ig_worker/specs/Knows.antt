@@ -7,7 +7,7 @@ use Rattle.ig_defs.specs.QueueNames.{task_of}
 use Rattle.ig_cutout.specs.declared.types.Input.{Input}
 use Rattle.ig_cutout.specs.declared.types.Output.{Output}
 use Rattle.ig_record.specs.declared.stage.Stage.{Stage}
-use Rattle.ig_record.specs.Stage.{paths_of}
+use Rattle.ig_record.specs.Columns.{paths_of}
 use Rattle.ig_rule.specs.Known.{KeptStage, Lease, Memory}
 use Rattle.ig_rule.specs.Known as rule
 use Rattle.ig_task.specs.Facts.{facts_of, stage_reader}

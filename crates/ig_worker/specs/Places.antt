@@ -5,7 +5,7 @@ use Rattle.ig_defs.specs.declared.queue_name.QueueName.{QueueName}
 use Rattle.ig_cutout.specs.declared.types.Input.{Input}
 use Rattle.ig_record.specs.declared.stage.Stage.{Stage}
 use Rattle.ig_record.specs.Reading.{record_in}
-use Rattle.ig_record.specs.Stage.{inputs_of}
+use Rattle.ig_record.specs.Columns.{inputs_of}
 use Rattle.ig_meaning.specs.QueueMaking.{record_path}
 use Rattle.ig_worker.specs.declared.error.WorkerError.TheVariants.{Absent, BadRecord}
 use Rattle.ig_worker.specs.declared.notes.Notes.{Notes}

@@ -8,7 +8,8 @@ use Rattle.ig_defs.specs.QueueNames.{task_file}
 use Rattle.ig_layer.specs.Faults.{first_of}
 use Rattle.ig_rule.specs.Stages.{task_id}
 use Rattle.ig_record.specs.declared.stage.Stage.{Stage}
-use Rattle.ig_record.specs.Stage.{output_dirs, removed_dir, task_count}
+use Rattle.ig_record.specs.Columns.{output_dirs, removed_dir}
+use Rattle.ig_record.specs.Stage.{task_count}
 use Rattle.ig_meaning.specs.QueueMaking.{stage_named}
 
 -- the stages that it knows, each with its number, in order
@@ -32,6 +33,10 @@ is_dir (Some removed) dir = bytes_eq removed dir
 -- the stage is a removal other than that of number n, and removes the directory
 abbrev pub removes_dir : ℕ → List ℕ → ℕ × Stage → Bool
 removes_dir n dir r = not (r.0 == n) && is_dir (removed_dir r.1) dir
+
+-- and removes one of these
+abbrev pub removes_among : ℕ → List (List ℕ) → ℕ × Stage → Bool
+removes_among n dirs r = list_any (λ dir. removes_dir n dir r) dirs
 
 abbrev pub is_removed : Known → ℕ → List ℕ → Bool
 is_removed known n dir = list_any (removes_dir n dir) known

@@ -1,13 +1,15 @@
 //! The stages that a worker knows.
 ghost use Rattle.std.specs.Prelude.{◌≡◌, ℕ, List as list, [], map, option_map, OnOk, OnErr};
+ghost use Rattle.std.specs.List.{list_any};
 ghost use Rattle.std.specs.List.Sorted.{IsStrictlySortedBy};
 ghost use Rattle.std.specs.Ordering.{nat_cmp};
+ghost use Rattle.ig_record.specs.Columns.{output_dirs};
 ghost use Rattle.ig_worker.specs.Counting.{HasListed};
 ghost use Rattle.ig_worker.specs.Fit.{AreStages, number_of};
-ghost use Rattle.ig_worker.specs.Stages.{all_tasks, all_unlisted, is_removed, removes_dir, stage_in, with_stage};
+ghost use Rattle.ig_worker.specs.Stages.{all_tasks, all_unlisted, is_removed, removes_among, removes_dir, stage_in, with_stage};
 
 use crate::counting::unlisted;
-use ig_record::{Kind, Stage};
+use ig_record::{Stage, removed, writes_in};
 use ig_space::Path;
 use std::alloc::{AllocError, Global};
 use std::collections::{BTreeMap, BTreeSet};
@@ -63,6 +65,22 @@ impl Records {
             .iter()
             .any(|(other, stage)| removes(number, dir, *other, stage))
     }
+
+    /// The same of one of the directories that a stage writes in, stage by stage.
+    fn removes_among(&self, number: u32, writer: &Stage) -> bool
+        ensures { result ≡ list_any (removes_among number (output_dirs writer.now)) self.now }
+    {
+        self.stages
+            .iter()
+            .any(|(other, stage)| removes_one(number, writer, *other, stage))
+    }
+
+    /// Whether a stage, other than that with this number, removes one of the directories that a stage writes in.
+    pub(crate) fn removes_output(&self, number: u32, writer: &Stage) -> bool
+        ensures { result ≡ list_any (is_removed self.now number) (output_dirs writer.now) }
+    {
+        self.removes_among(number, writer)
+    }
 }
 
 /// How many tasks stages have, and how many of them a listing does not show.
@@ -96,8 +114,18 @@ impl Records {
 fn removes(number: u32, dir: &Path, other: u32, stage: &Stage) -> bool
     ensures { result ≡ removes_dir number dir.now (other, stage.now) }
 {
-    match stage.kind {
-        Kind::Remove => other != number && stage.source.dir == *dir,
-        _ => false,
+    match removed(stage) {
+        Some(removed) => other != number && *removed == *dir,
+        None => false,
+    }
+}
+
+/// Whether the stage is a removal other than that with this number, and removes a directory that the writer writes in.
+fn removes_one(number: u32, writer: &Stage, other: u32, stage: &Stage) -> bool
+    ensures { result ≡ removes_among number (output_dirs writer.now) (other, stage.now) }
+{
+    match removed(stage) {
+        Some(dir) => other != number && writes_in(writer, dir.as_bytes()),
+        None => false,
     }
 }

@@ -1,43 +1,18 @@
 //! Which tasks may be run, as far as the stages are known.
 ghost use Rattle.std.specs.Prelude.{◌≡◌, ◌≤◌, IfOk, IfSome};
-ghost use Rattle.std.specs.List.{list_any};
-ghost use Rattle.ig_record.specs.Stage.{dirs_of_all, output_dirs};
 ghost use Rattle.ig_worker.specs.Fit.{AreStages};
-ghost use Rattle.ig_worker.specs.Stages.{is_removed, is_under_removal, open_names, open_tasks};
+ghost use Rattle.ig_worker.specs.Stages.{is_under_removal, open_names, open_tasks};
 
 use crate::{Ahead, Records};
 use ig_queue::{Candidates, QueueName};
-use ig_record::{Kind, Stage};
-use ig_space::Place;
+use ig_record::Stage;
 use std::alloc::{AllocError, Global};
-
-/// The scales that the stage writes.
-fn outputs(stage: &Stage) -> &[Place]
-    ensures { dirs_of_all result.now ≡ output_dirs stage.now }
-{
-    match stage.kind {
-        Kind::Xfer => stage.dests.as_slice(),
-        _ => &[],
-    }
-}
-
-/// Whether a known stage, other than that with this number, removes one of these scales.
-fn one_is_removed(known: &Records, number: u32, places: &[Place]) -> bool
-    ensures { result ≡ list_any (is_removed known.now number) (dirs_of_all places.now) }
-{
-    for place in places {
-        if known.removes_other(number, &place.dir) {
-            return true;
-        }
-    }
-    false
-}
 
 /// Whether the stage with this number is under removal.
 fn is_under_removal(known: &Records, number: u32, stage: &Stage) -> bool
     ensures { result ≡ is_under_removal known.now number stage.now }
 {
-    known.removes_other(number, &stage.source.dir) || one_is_removed(known, number, outputs(stage))
+    known.removes_other(number, &stage.source.dir) || known.removes_output(number, stage)
 }
 
 /// How many tasks of the stage with this number may be run: none where it is not known, or is under removal.

@@ -1,4 +1,4 @@
-use Rattle.ig_queue.proofs.Segments.{is_path-segment}
+use Rattle.ig_defs.specs.OneSegment.{is_path-segment}
 use Rattle.ig_queue.proofs.naming.path_of.Goals as goal
 
 pub unwrap-requires : goal.unwrap-requires

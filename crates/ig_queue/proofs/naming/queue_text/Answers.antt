@@ -2,7 +2,7 @@ use Rattle.std.proofs.Common.{◌≡◌, ◌++◌, ◌∷◌, ℕ, List, IfOk, s
 use Rattle.std.specs.Fmt.{styled_decimal}
 use Rattle.ig_defs.specs.QueueNames.{digits}
 use Rattle.ig_defs.specs.QueueNameLaws.{IsName-fits}
-use Rattle.ig_queue.proofs.Written.{written}
+use Rattle.ig_defs.specs.Padded.{written}
 use Rattle.ig_queue.proofs.naming.queue_text.Goals as goal
 
 pub returns : goal.returns

@@ -1,6 +1,6 @@
 -- The directories so far, and then those that are left, are all.
 use Rattle.std.proofs.Common.{◌≡◌, ◌++◌, drop}
-use Rattle.ig_record.specs.Stage.{dirs_of_all}
+use Rattle.ig_record.specs.Columns.{dirs_of_all}
 use Rattle.ig_record.proofs.lists.dirs_of.Given as goal
 
 abbrev pub invariant-loop-place : goal.invariant-loop-place

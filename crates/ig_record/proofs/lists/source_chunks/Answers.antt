@@ -1,5 +1,5 @@
 use Rattle.std.proofs.Common.{arith}
-use Rattle.ig_record.specs.SoundFacts.{IsSound-from}
+use Rattle.ig_record.specs.SoundStages.{IsSound-from}
 use Rattle.ig_record.proofs.lists.source_chunks.Goals as goal
 
 pub chunks_of-requires-clause-fits : goal.chunks_of-requires-clause-fits

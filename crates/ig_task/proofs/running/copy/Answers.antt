@@ -8,7 +8,7 @@ use Rattle.ig_space.specs.Raw.{AllFit}
 use Rattle.ig_layer.specs.Faults.{first_fault}
 use Rattle.ig_layer.specs.Layer.{Reading, volume_at}
 use Rattle.ig_layer.specs.Texts.{files_in}
-use Rattle.ig_record.specs.SoundFacts.{IsSound-from}
+use Rattle.ig_record.specs.SoundStages.{IsSound-from}
 use Rattle.ig_meaning.specs.Refusal as refusal
 use Rattle.ig_meaning.specs.SoundCopies.{sound-copy}
 use Rattle.ig_meaning.specs.Stage.{task_refusal}

@@ -1,0 +1,5 @@
+use Rattle.ig_record.proofs.TaskCounts.{task_number}
+use Rattle.ig_record.proofs.lists.add_scratch_read.Goals as goal
+
+pub add_numbered-requires-clause-small : goal.add_numbered-requires-clause-small
+add_numbered-requires-clause-small c = task_number c.args.stage.now c.args.task c.requires.sound c.requires.below

@@ -1,0 +1,10 @@
+-- The side is still to be halved as often as is left.
+use Rattle.std.proofs.Common.{◌≡◌, ◌≤◌}
+use Rattle.ig_mode.specs.Mips.{up_times}
+use Rattle.ig_record.proofs.lists.up_times.Given as goal
+
+abbrev pub invariant-loop-rest : goal.invariant-loop-rest
+invariant-loop-rest l = record { value : up_times l.times l.side ≡ up_times l.rest l.halved; most : l.halved ≤ l.side }
+
+abbrev pub decreases-loop-rest : goal.decreases-loop-rest
+decreases-loop-rest l = l.rest
