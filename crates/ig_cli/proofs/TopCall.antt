@@ -12,7 +12,8 @@ use Rattle.ig_meaning.specs.Plan.{stage_of_command}
 use Rattle.ig_meaning.specs.Words.{Command, command_of, queue_of_words}
 use Rattle.ig_record.specs.declared.stage.Stage.{Stage}
 use Rattle.ig_rule.specs.Sound.{Legal}
-use Rattle.ig_rule.specs.Went.{Idled}
+use Rattle.ig_defs.specs.TurnLaws.{idled_nothing}
+use Rattle.ig_defs.specs.Turns.{Idled}
 use Rattle.ig_task.specs.Facts.{stage_reader}
 use Rattle.ig_task.specs.Pipeline.{is_allowed}
 use Rattle.ig_task.specs.declared.pipeline.Pipeline.{Pipeline}
@@ -23,7 +24,6 @@ use Rattle.ig_worker.specs.Words.{plan_of_words}
 use Rattle.ig_cli.specs.Rules.{queue_in_use, rule_for, rule_of_words, rule_with, worker_rule}
 use Rattle.ig_cli.specs.Worked.{EndsSo, HasSaid, HasWorked}
 use Rattle.ig_cli.proofs.PlanWords.{no_plan}
-use Rattle.ig_cli.proofs.WorkerHalts.{idled_nothing}
 use Rattle.ig_cli.proofs.WorkerMeans.{ends_so}
 
 -- ---- statuses

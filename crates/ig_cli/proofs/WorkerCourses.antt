@@ -48,7 +48,7 @@ module _ (from mid to : ℕ) (before : from ≤ mid) (notes : Notes) (m : Move) 
 module _ (allows : Bool → Files → Act → Type 0) where
   called_earlier : (from mid to : ℕ) → from ≤ mid → (s : State) (old new : Log) (m : Move) → Called allows mid to s old new m → Called allows from to s old new m
   called_earlier from mid to before s old new m h =
-      record { act = h.act; acted = h.acted; grown = h.grown; takes = h.takes; leads = leads_earlier from mid to before s.notes m s.phase h.leads }
+      record { answered = h.answered; leads = leads_earlier from mid to before s.notes m s.phase h.leads }
 
   -- ---- a course
   -- time may pass after it

@@ -1,11 +1,11 @@
 -- A worker that has stopped at an error.
-use Rattle.std.proofs.Common.{◌≡◌, ◌≤◌, ◌⊎◌, ℕ, Bool, false, List, [], ◌∷◌, ◌++◌, length, take, Result, Err, refl, ap, sym, subst, ◌∙◌, append-nil, inl, inr, true≢false}
+use Rattle.std.proofs.Common.{◌≡◌, ◌≤◌, ◌⊎◌, ℕ, Bool, false, List, [], ◌∷◌, ◌++◌, length, take, Result, Err, ap, sym, subst, ◌∙◌, append-nil, inl, inr, true≢false}
 use Rattle.std.proofs.Math.Seq.{take-append_seam}
 use Rattle.ig_defs.specs.declared.step.Act.{Act}
 use Rattle.ig_defs.specs.Files.{Files}
 use Rattle.ig_defs.specs.Log.{Log}
-use Rattle.ig_rule.specs.Went.{Idled}
-use Rattle.ig_rule.specs.WentOn.{went_nothing}
+use Rattle.ig_defs.specs.TurnLaws.{idled_nothing}
+use Rattle.ig_defs.specs.Turns.{Idled}
 use Rattle.ig_worker.specs.declared.error.WorkerError.{WorkerError}
 use Rattle.ig_worker.specs.declared.error.WorkerError.TheVariants.{Absent, BadRecord, Failed, Memory}
 use Rattle.ig_worker.specs.declared.notes.Notes.{Notes}
@@ -27,9 +27,6 @@ use Rattle.ig_cli.proofs.WorkerCourses.{course_later}
 use Rattle.ig_cli.proofs.WorkerSpeaks.{Quiet, Says, Speaks, leads_speak, unsaid}
 use Rattle.ig_cli.proofs.WorkerSteps.{but_last-append, said_of-append}
 use Rattle.ig_cli.proofs.WorkerGoes.{Stands, all_told, course_on, same_length}
-
-pub idled_nothing : (allows : Bool → Files → Act → Type 0) (log : Log) → Idled allows log log
-idled_nothing allows log = record { others = []; by = tt; went = went_nothing allows log; files = refl }
 
 -- the worker's moves till the error, where these lines were told
 pub record Halts (allows : Bool → Files → Act → Type 0) (plan : Plan) (from to : ℕ) (old new : Log) (said : List Line) (e : WorkerError) : Type 0 where

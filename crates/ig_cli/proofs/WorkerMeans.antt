@@ -1,8 +1,9 @@
 -- What the end of a worker's run means in a legal log.
-use Rattle.std.proofs.Common.{◌≡◌, ◌<◌, ◌^◌, ℕ, List, [], Option, None, Some, option_map, refl, arith, inl, inr}
+use Rattle.std.proofs.Common.{◌≡◌, ◌<◌, ◌^◌, ℕ, List, Option, None, Some, option_map, refl, arith, inl, inr}
 use Rattle.std.proofs.lemmas.Option.{same_Some}
 use Rattle.ig_defs.specs.Files.{Files}
 use Rattle.ig_defs.specs.Log.{Log, files_of}
+use Rattle.ig_defs.specs.TurnLaws.{prefix_of}
 use Rattle.ig_rule.specs.declared.role.Role.TheVariants.{Worker}
 use Rattle.ig_rule.specs.Facts.{Facts}
 use Rattle.ig_rule.specs.QueueFiles.{queue_of}
@@ -22,7 +23,7 @@ use Rattle.ig_worker.specs.declared.turn.End.{End}
 use Rattle.ig_worker.specs.declared.turn.End.TheVariants as end
 use Rattle.ig_worker.specs.Course.{end_at}
 use Rattle.ig_worker.specs.Ends.{finished, letters, waiting}
-use Rattle.ig_worker.specs.EndsLasts.{lasts_went}
+use Rattle.ig_worker.specs.EndsLasts.{lasts_later}
 use Rattle.ig_worker.specs.EndsPlaces.{course_keeps}
 use Rattle.ig_worker.specs.EndsRecords.{never_broken}
 use Rattle.ig_worker.specs.Moves.{Move}
@@ -116,7 +117,7 @@ means plan from to old new ms place status out_tells out_before out_now w said l
     let q = plan.queue in
     let at_last = course_keeps Worker plan from old ms to place w.last limits small legal w.course in
     let at_new = idled_legal stage_reader Worker q w.last new w.rest at_last.legal in
-    let lasts = lasts_went (AllowsFor Worker plan) q w.last new [] w.rest.went at_last.legal at_new in
+    let lasts = lasts_later q w.last new (prefix_of w.rest) at_last.legal at_new in
     record {
       ms = ms;
       place = place;
@@ -127,16 +128,16 @@ means plan from to old new ms place status out_tells out_before out_now w said l
       no_fault = not_five place status (never_broken Worker plan from old ms to place w.last limits small legal w.course) w.ended;
       finished = λ none.
           let e = finished_end place status w.ended none in
-          let h = finished Worker plan from old ms to place w.last limits small legal w.course e.0 e.1 in
-          (e.0, e.1, h.0, h.1, λ n t is. done_still q (files_of w.last) (files_of new) lasts n t (h.1.all n t is));
+          let h = finished Worker plan from old ms to place w.last new limits small legal w.course (prefix_of w.rest) e.0 e.1 in
+          record { tasks = e.0; said = e.1; ended = h.0; means = h.1; all = λ n t is. done_still q (files_of w.last) (files_of new) lasts n t (h.1.all n t is) };
       waiting = λ three.
           let e = waiting_end place status w.ended three in
-          let h = waiting Worker plan from old ms to place w.last limits small legal w.course e.0 e.1 in
-          (e.0, e.1, h.0, h.1);
+          let h = waiting Worker plan from old ms to place w.last new limits small legal w.course (prefix_of w.rest) e.0 e.1 in
+          record { tasks = e.0; said = e.1; ended = h.0; means = h.1 };
       letters = λ four.
           let e = letters_end place status w.ended four in
-          let h = letters Worker plan from old ms to place w.last limits small legal w.course e.0 e.1 in
-          (e.0, e.1, h.0, h.1);
+          let h = letters Worker plan from old ms to place w.last new limits small legal w.course (prefix_of w.rest) e.0 e.1 in
+          record { count = e.0; said = e.1; ended = h.0; means = h.1 };
     }
 
 -- The end of a worker's run, as it was printed, means so in a legal log.

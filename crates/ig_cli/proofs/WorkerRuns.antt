@@ -3,6 +3,7 @@ use Rattle.std.proofs.Common.{◌≡◌, ◌≤◌, ℕ, Bool, false, List, [], 
 use Rattle.ig_defs.specs.declared.step.Act.{Act}
 use Rattle.ig_defs.specs.Files.{Files}
 use Rattle.ig_defs.specs.Log.{Log}
+use Rattle.ig_defs.specs.TurnLaws.{idled_nothing}
 use Rattle.ig_worker.specs.declared.error.WorkerError.{WorkerError}
 use Rattle.ig_worker.specs.declared.plan.Plan.{Plan}
 use Rattle.ig_worker.specs.declared.turn.End.{End}
@@ -21,7 +22,7 @@ use Rattle.ig_cli.specs.Working.{Answers, Ran, TakesLine, Turned}
 use Rattle.ig_cli.proofs.WorkerSpeaks.{unsaid}
 use Rattle.ig_cli.proofs.WorkerSteps.{Same, said_by}
 use Rattle.ig_cli.proofs.WorkerGoes.{Advances, Stands, steps_on}
-use Rattle.ig_cli.proofs.WorkerHalts.{Halts, halts, idled_nothing}
+use Rattle.ig_cli.proofs.WorkerHalts.{Halts, halts}
 use Rattle.ig_cli.proofs.WorkerTexts.{line_part, lines_part, lines_text-append}
 
 -- A worker of this plan, its moves so far, and what the output took.

@@ -15,7 +15,7 @@ use Rattle.ig_worker.specs.declared.phase.Then.{Then}
 use Rattle.ig_worker.specs.declared.phase.Then.TheVariants.{Ask, Try, Count}
 use Rattle.ig_worker.specs.declared.turn.Line.{Line}
 use Rattle.ig_worker.specs.declared.turn.Line.TheVariants as line
-use Rattle.ig_worker.specs.Calls.{Answer, Call}
+use Rattle.ig_defs.specs.Answers.{Answer, Call}
 use Rattle.ig_worker.specs.Left.{is_over}
 use Rattle.ig_worker.specs.Moves.{ActsOn, HandsOver, Leads, Makes, Move, Outcome, Refuses, TriesBy, TriesName, moves, said_if, said_of_input}
 use Rattle.ig_worker.specs.Places.{State, begun_by, counted, fetched, fetching, learning, learnt, learnt_all, learnt_by, leased_or_gone, next_try, round_of, stands}

@@ -9,7 +9,7 @@ use Rattle.ig_rule.specs.QueueFiles.{queue_of}
 use Rattle.ig_rule.specs.declared.role.Role.TheVariants.{Worker}
 use Rattle.ig_rule.specs.Stages.{Finished as AllDone}
 use Rattle.ig_rule.specs.Stages.{stages_in}
-use Rattle.ig_rule.specs.Went.{Idled}
+use Rattle.ig_defs.specs.Turns.{Idled}
 use Rattle.ig_store.specs.Sink.{TakesPrefix}
 use Rattle.ig_meaning.specs.Lines.{fault_line, memory_text, store_text}
 use Rattle.ig_task.specs.Facts.{stage_reader}
@@ -103,10 +103,39 @@ pub record HasWorked (allows : Bool → Files → Act → Type 0) (plan : Plan) 
   pub warned : err_tells → ¬ Rose faults_before faults_now → HasWarned place status err_before err_now
 
 -- ---- in a legal log, what its end means
--- At status 0 each stage that was recorded when the last listing of the stages began is finished, so many tasks are done, and no dead
--- letter stood throughout the listing of those. At 3 so many tasks were not done when the done ones were listed, no dead letter stood
--- throughout the listing of those, and none of the queue's tasks could be leased. At 4 the dead letters that were told stood, and none
--- of the queue's tasks could be leased. No record was missing or malformed. The moves and the place are those of what was printed.
+-- Of a worker of this plan, whose moves led it to this place and the log to `last`, in a call whose log is `new` now. Its last
+-- listings, of the queue, the stages, the dead letters and the done tasks, are own ones at moments of this log.
+module _ (plan : Plan) (from to : ℕ) (old new : Log) (ms : List Move) (place : State) (last : Log) where
+  abbrev Listings : Type 0
+  Listings = HasEnded Worker plan from old ms to place last new
+
+  -- So many tasks are done, and each stage that was recorded when the last listing of the stages began is finished. No dead letter
+  -- stood all through the last listing of those.
+  pub record HasFinished : Type 0 where
+    pub tasks : ℕ
+    pub said : end_at place.notes place.phase ≡ Some (Finished tasks)
+    pub ended : Listings
+    pub means : Finishes Worker plan old ended.listing.mid (ended.listing.move ∷ ended.listing.rest) place last new ended.ending tasks
+    pub all : (n : ℕ) (t : Facts) → stages_in stage_reader plan.queue (files_of ended.listing.mid) n ≡ Some t
+        → AllDone (queue_of plan.queue (files_of new)) n t
+
+  -- So many tasks were not done when the last listing of the done ones began. No dead letter stood all through the last listing of
+  -- those, and no due name of a task that may be run stood all through the last listing of the queue.
+  pub record HasWaited : Type 0 where
+    pub tasks : ℕ
+    pub said : end_at place.notes place.phase ≡ Some (Waiting tasks)
+    pub ended : Listings
+    pub means : Waits Worker plan old ended.listing.mid (ended.listing.move ∷ ended.listing.rest) place last new ended.ending tasks
+
+  -- So many dead letters were told, each of which stood at a moment of the last listing of them, and among which is each that stood
+  -- all through it. No due name of a task that may be run stood all through the last listing of the queue.
+  pub record HasTold : Type 0 where
+    pub count : ℕ
+    pub said : end_at place.notes place.phase ≡ Some (Letters count)
+    pub ended : Listings
+    pub means : Tells Worker plan old ended.listing.mid (ended.listing.move ∷ ended.listing.rest) place last new ended.ending count
+
+-- What the end means, by the status. No record was missing or malformed. The moves and the place are those of what was printed.
 pub record EndsSo (plan : Plan) (from to : ℕ) (old new : Log) (status : ℕ) (out_tells : Type 0) (out_before out_now : List ℕ) : Type 0 where
   pub ms : List Move
   pub place : State
@@ -115,10 +144,6 @@ pub record EndsSo (plan : Plan) (from to : ℕ) (old new : Log) (status : ℕ) (
   pub rest : Idled (AllowsFor Worker plan) last new
   pub said : out_tells → HasSaid ms place status out_before out_now
   pub no_fault : ¬ (status ≡ 5)
-  pub finished : status ≡ 0 → (tasks : ℕ) × (end_at place.notes place.phase ≡ Some (Finished tasks))
-      × (x : HasEnded Worker plan from old ms to place last) × Finishes Worker plan x.listing.mid (x.listing.move ∷ x.listing.rest) place last x.ending tasks
-      × ((n : ℕ) (t : Facts) → stages_in stage_reader plan.queue (files_of x.listing.mid) n ≡ Some t → AllDone (queue_of plan.queue (files_of new)) n t)
-  pub waiting : status ≡ 3 → (tasks : ℕ) × (end_at place.notes place.phase ≡ Some (Waiting tasks))
-      × (x : HasEnded Worker plan from old ms to place last) × Waits Worker plan x.listing.mid (x.listing.move ∷ x.listing.rest) place last x.ending tasks
-  pub letters : status ≡ 4 → (count : ℕ) × (end_at place.notes place.phase ≡ Some (Letters count))
-      × (x : HasEnded Worker plan from old ms to place last) × Tells Worker plan x.listing.mid (x.listing.move ∷ x.listing.rest) place last x.ending count
+  pub finished : status ≡ 0 → HasFinished plan from to old new ms place last
+  pub waiting : status ≡ 3 → HasWaited plan from to old new ms place last
+  pub letters : status ≡ 4 → HasTold plan from to old new ms place last

@@ -4,7 +4,7 @@ use Rattle.ig_defs.specs.Causes.{Rose}
 use Rattle.ig_defs.specs.Log.{Log}
 use Rattle.ig_defs.specs.Files.{Files}
 use Rattle.ig_defs.specs.declared.step.Act.{Act}
-use Rattle.ig_rule.specs.Went.{Idled}
+use Rattle.ig_defs.specs.Turns.{Idled}
 use Rattle.ig_store.specs.Sink.{TakesPrefix}
 use Rattle.ig_meaning.specs.Ending.{Ending, Finished, NoMemory}
 use Rattle.ig_worker.specs.declared.error.WorkerError.{WorkerError}

@@ -4,6 +4,9 @@ pub mod Replay
 pub mod Names
 pub mod Causes
 pub mod Calls
+pub mod Turns
+pub mod Answers
+pub mod TurnLaws
 pub mod Own
 pub mod Puts
 pub mod QueueNames

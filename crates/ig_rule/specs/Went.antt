@@ -5,10 +5,10 @@ use Rattle.ig_defs.specs.declared.step.Act.TheVariants as act
 use Rattle.ig_defs.specs.declared.step.Step.{Step}
 use Rattle.ig_defs.specs.declared.error.StoreError.{StoreError}
 use Rattle.ig_defs.specs.declared.error.StoreError.TheVariants.{Failed, Memory}
-use Rattle.ig_defs.specs.Calls.{ListsNames}
 use Rattle.ig_defs.specs.Files.{Files, file_at}
-use Rattle.ig_defs.specs.Log.{Log, ByOthers, after, files_of, replay}
+use Rattle.ig_defs.specs.Log.{Log, after, files_of}
 use Rattle.ig_defs.specs.Own.{Moment, own_moments}
+use Rattle.ig_defs.specs.Turns.{Acted, Idled, Listed}
 
 -- each step of others is allowed at its moment
 abbrev pub OthersAllowed : (Bool → Files → Act → Type 0) → Files → List Step → Type 0
@@ -23,21 +23,6 @@ pub record Went (allows : Bool → Files → Act → Type 0) (old new : Log) (ms
   pub others : OthersAllowed allows (files_of old) steps
   pub moments : own_moments (files_of old) steps ≡ ms
 
--- ---- one call on a store
--- steps of others, and then one own act
-pub record Acted (allows : Bool → Files → Act → Type 0) (old new : Log) (a : Act) : Type 0 where
-  pub others : List Step
-  pub by : ByOthers allows (files_of old) others
-  pub went : Went allows old new (record { files = replay (files_of old) others; act = a } ∷ [])
-  pub files : files_of new ≡ after (replay (files_of old) others) a
-
--- steps of others, and no own act
-pub record Idled (allows : Bool → Files → Act → Type 0) (old new : Log) : Type 0 where
-  pub others : List Step
-  pub by : ByOthers allows (files_of old) others
-  pub went : Went allows old new []
-  pub files : files_of new ≡ replay (files_of old) others
-
 -- ---- by the result of the call
 abbrev pub WentRead : (Bool → Files → Act → Type 0) → Log → Log → List ℕ → Result (Option (List ℕ)) StoreError → Type 0
 WentRead allows old new path (Ok found) = Acted allows old new (act.Read path) × (found ≡ file_at (files_of new) path)
@@ -46,11 +31,6 @@ WentRead allows old new path (Err e) = Idled allows old new
 abbrev pub WentHas : (Bool → Files → Act → Type 0) → Log → Log → List ℕ → Result Bool StoreError → Type 0
 WentHas allows old new path (Ok found) = Acted allows old new (act.Read path) × (found ≡ is_some (file_at (files_of new) path))
 WentHas allows old new path (Err e) = Idled allows old new
-
--- a listing, with the steps of others during which names came or went
-pub record Listed (allows : Bool → Files → Act → Type 0) (old new : Log) (dir : List ℕ) (given : List (List ℕ)) : Type 0 where
-  pub acted : Acted allows old new (act.List dir given)
-  pub names : ListsNames dir given (files_of old) acted.others
 
 abbrev pub WentList : (Bool → Files → Act → Type 0) → Log → Log → List ℕ → Result (List (List ℕ)) StoreError → Type 0
 WentList allows old new dir (Ok given) = Listed allows old new dir given

@@ -11,6 +11,8 @@ use Rattle.ig_defs.specs.Files.{Files, file_at}
 use Rattle.ig_defs.specs.Log.{Log, Turn, ByOthers, IsQuiet, OthersOnlyRead, after, files_of, own_all, replay}
 use Rattle.ig_defs.specs.Own.{Moment, own_moments, with_moment}
 use Rattle.ig_defs.specs.Replay.{after-quiet, replay-append}
+use Rattle.ig_defs.specs.TurnLaws.{files_then}
+use Rattle.ig_defs.specs.Turns.{Acted, Grew, Idled}
 use Rattle.ig_rule.specs.Facts.{Reader}
 use Rattle.ig_rule.specs.Rule.{Allowed}
 use Rattle.ig_rule.specs.Sound.{AreAllowedSteps, Legal}
@@ -18,7 +20,7 @@ use Rattle.ig_rule.specs.Roles.{Allows}
 use Rattle.ig_rule.specs.declared.role.Role.{Role}
 use Rattle.ig_rule.specs.Beside.{quiet_allowed}
 use Rattle.ig_rule.specs.Prefixes.{legal_grown}
-use Rattle.ig_rule.specs.Went.{OthersAllowed, Went, Acted, Idled, WentRead, WentHas, WentList, WentPut}
+use Rattle.ig_rule.specs.Went.{OthersAllowed, Went, WentRead, WentHas, WentList, WentPut}
 
 -- ---- one part after the other
 
@@ -81,61 +83,50 @@ own_moments-others allows files (step ∷ others) rest by =
     ap (λ mine. with_moment mine (record { files = files; act = step.act }) (own_moments (after files step.act) (others ++ rest))) by.0
     ∙ own_moments-others allows (after files step.act) others rest by.2
 
-turn_went : (allows : Bool → Files → Act → Type 0) (old new : Log) (P : Files → List Step → List Act → Type 0) (t : Turn allows old new P)
-    → Went allows old new (own_moments (replay (files_of old) t.others) (own_all t.acts))
-turn_went allows old new P t = record {
-  steps = t.others ++ own_all t.acts;
+-- what one call did
+pub went_of : {allows : Bool → Files → Act → Type 0} {old new : Log} {acts : List Act} (t : Grew allows old new acts)
+    → Went allows old new (own_moments (replay (files_of old) t.others) (own_all acts))
+went_of {allows = allows} {old = old} {acts = acts} t = record {
+  steps = t.others ++ own_all acts;
   opening = t.opening;
   grown = t.grown;
-  others = OthersAllowed-append allows (files_of old) t.others (own_all t.acts)
-      (by_others_allowed allows (files_of old) t.others t.by_others) (own_allowed allows (replay (files_of old) t.others) t.acts);
-  moments = own_moments-others allows (files_of old) t.others (own_all t.acts) t.by_others;
+  others = OthersAllowed-append allows (files_of old) t.others (own_all acts)
+      (by_others_allowed allows (files_of old) t.others t.by) (own_allowed allows (replay (files_of old) t.others) acts);
+  moments = own_moments-others allows (files_of old) t.others (own_all acts) t.by;
 }
 
-abbrev turn_acted : (allows : Bool → Files → Act → Type 0) (old new : Log) (P : Files → List Step → List Act → Type 0) (t : Turn allows old new P) (a : Act) → t.acts ≡ a ∷ [] → Acted allows old new a
-turn_acted allows old new P t a one = record {
-  others = t.others;
-  by = t.by_others;
-  went = subst (λ acts. Went allows old new (own_moments (replay (files_of old) t.others) (own_all acts))) one (turn_went allows old new P t);
-  files = t.files ∙ ap (λ acts. replay (replay (files_of old) t.others) (own_all acts)) one;
-}
-
-abbrev turn_idled : (allows : Bool → Files → Act → Type 0) (old new : Log) (P : Files → List Step → List Act → Type 0) (t : Turn allows old new P) → t.acts ≡ [] → Idled allows old new
-turn_idled allows old new P t none = record {
-  others = t.others;
-  by = t.by_others;
-  went = subst (λ acts. Went allows old new (own_moments (replay (files_of old) t.others) (own_all acts))) none (turn_went allows old new P t);
-  files = t.files ∙ ap (λ acts. replay (replay (files_of old) t.others) (own_all acts)) none;
-}
+abbrev pub grew_of : {allows : Bool → Files → Act → Type 0} {old new : Log} {P : Files → List Step → List Act → Type 0} (t : Turn allows old new P) (acts : List Act) → t.acts ≡ acts → Grew allows old new acts
+grew_of {old = old} t acts are =
+    record { others = t.others; by = t.by_others; opening = t.opening; grown = t.grown ∙ ap (λ acts. old.steps ++ (t.others ++ own_all acts)) are }
 
 pub turn_read : (allows : Bool → Files → Act → Type 0) (old new : Log) (path : List ℕ) (result : Result (Option (List ℕ)) StoreError)
     → Turn allows old new (TakesRead path result) → WentRead allows old new path result
 turn_read allows old new path (Ok found) t =
-    let acted = turn_acted allows old new _ t (act.Read path) t.took.0 in
-    (acted, t.took.1 ∙ ap (λ files. file_at files path) (sym acted.files))
-turn_read allows old new path (Err e) t = turn_idled allows old new _ t t.took
+    let acted : Acted allows old new (act.Read path) = grew_of t (act.Read path ∷ []) t.took.0 in
+    (acted, t.took.1 ∙ ap (λ files. file_at files path) (sym (files_then acted)))
+turn_read allows old new path (Err e) t = grew_of t [] t.took
 
 pub turn_has : (allows : Bool → Files → Act → Type 0) (old new : Log) (path : List ℕ) (result : Result Bool StoreError)
     → Turn allows old new (TakesHas path result) → WentHas allows old new path result
 turn_has allows old new path (Ok found) t =
-    let acted = turn_acted allows old new _ t (act.Read path) t.took.0 in
-    (acted, t.took.1 ∙ ap (λ files. is_some (file_at files path)) (sym acted.files))
-turn_has allows old new path (Err e) t = turn_idled allows old new _ t t.took
+    let acted : Acted allows old new (act.Read path) = grew_of t (act.Read path ∷ []) t.took.0 in
+    (acted, t.took.1 ∙ ap (λ files. is_some (file_at files path)) (sym (files_then acted)))
+turn_has allows old new path (Err e) t = grew_of t [] t.took
 
 pub turn_list : (allows : Bool → Files → Act → Type 0) (old new : Log) (dir : List ℕ) (result : Result (List (List ℕ)) StoreError)
     → Turn allows old new (TakesNames dir result) → WentList allows old new dir result
-turn_list allows old new dir (Ok given) t = record { acted = turn_acted allows old new _ t (act.List dir given) t.took.0; names = t.took.1 }
-turn_list allows old new dir (Err e) t = turn_idled allows old new _ t t.took
+turn_list allows old new dir (Ok given) t = record { acted = grew_of t (act.List dir given ∷ []) t.took.0; names = t.took.1 }
+turn_list allows old new dir (Err e) t = grew_of t [] t.took
 
 pub turn_put : (allows : Bool → Files → Act → Type 0) (old new : Log) (path bytes : List ℕ) (result : Result (Unit {0}) StoreError)
     → Turn allows old new (TakesPut path bytes result) → WentPut allows old new path bytes result
-turn_put allows old new path bytes (Ok done) t = turn_acted allows old new _ t (act.Put path bytes) t.took
+turn_put allows old new path bytes (Ok done) t = grew_of t (act.Put path bytes ∷ []) t.took
 turn_put allows old new path bytes (Err Failed) t = by_acts t.took
   where
     by_acts : (t.acts ≡ []) ⊎ (t.acts ≡ act.Put path bytes ∷ []) → Idled allows old new ⊎ Acted allows old new (act.Put path bytes)
-    by_acts (inl none) = inl (turn_idled allows old new _ t none)
-    by_acts (inr one) = inr (turn_acted allows old new _ t (act.Put path bytes) one)
-turn_put allows old new path bytes (Err Memory) t = turn_idled allows old new _ t t.took
+    by_acts (inl none) = inl (grew_of t [] none)
+    by_acts (inr one) = inr (grew_of t (act.Put path bytes ∷ []) one)
+turn_put allows old new path bytes (Err Memory) t = grew_of t [] t.took
 
 -- ---- what each own step does
 
@@ -190,10 +181,10 @@ went_legal read role q old new ms w each legal =
 
 pub acted_legal : (read : Reader) (role : Role) (q : List ℕ) (old new : Log) (a : Act) → (t : Acted (Allows read role (Some q)) old new a)
     → Allowed read q (replay (files_of old) t.others) a → Legal read q old → Legal read q new
-acted_legal read role q old new a t may = went_legal read role q old new _ t.went (may, tt)
+acted_legal read role q old new a t may = went_legal read role q old new _ (went_of t) (may, tt)
 
 pub idled_legal : (read : Reader) (role : Role) (q : List ℕ) (old new : Log) → Idled (Allows read role (Some q)) old new → Legal read q old → Legal read q new
-idled_legal read role q old new t = went_legal read role q old new [] t.went tt
+idled_legal read role q old new t = went_legal read role q old new [] (went_of t) tt
 
 -- each own step only looks
 abbrev pub LooksOnly : Files → Act → Type 0

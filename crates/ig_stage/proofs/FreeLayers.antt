@@ -28,7 +28,9 @@ use Rattle.ig_rule.specs.Keeps.{keep_laws}
 use Rattle.ig_rule.specs.QueueFiles.{IsApartFrom, queue_of}
 use Rattle.ig_rule.specs.QueuePaths.{no_queue_path}
 use Rattle.ig_rule.specs.Room.{IsOutsideQueue}
-use Rattle.ig_rule.specs.Went.{Listed, Went}
+use Rattle.ig_defs.specs.Turns.{Listed}
+use Rattle.ig_rule.specs.WentOn.{went_of}
+use Rattle.ig_rule.specs.Went.{Went}
 use Rattle.ig_space.specs.Path.{joined}
 use Rattle.ig_space.specs.declared.place.Place.{Place}
 use Rattle.ig_task.specs.Facts.{facts_of, stage_reader}
@@ -125,7 +127,7 @@ empty_listing : (q : List ℕ) (stages : List Stage) (old new : Log) (dir : List
 empty_listing q stages old new dir given empty k listed path lies apart none = by_file (file_at (files_of old) path) refl
   where
     same : file_at (files_of new) path ≡ file_at (files_of old) path
-    same = same_file kinds q stages path apart none old new _ listed.acted.went (tt, tt) k
+    same = same_file kinds q stages path apart none old new _ (went_of listed.acted) (tt, tt) k
 
     by_file : (found : Option (List ℕ)) → file_at (files_of old) path ≡ found → file_at (files_of new) path ≡ None
     by_file None e = same ∙ e

@@ -8,8 +8,9 @@ use Rattle.ig_defs.specs.Log.{Log, files_of}
 use Rattle.ig_defs.specs.Own.{Moment}
 use Rattle.ig_meaning.specs.QueueMaking.{record_path}
 use Rattle.ig_rule.specs.QueueFiles.{QueueFile, Record, fits, path_of, queue_of}
-use Rattle.ig_rule.specs.Went.{Went, Acted}
-use Rattle.ig_rule.specs.WentOn.{EachMoment, LooksOnly}
+use Rattle.ig_defs.specs.Turns.{Acted}
+use Rattle.ig_rule.specs.Went.{Went}
+use Rattle.ig_rule.specs.WentOn.{EachMoment, LooksOnly, went_of}
 use Rattle.ig_task.specs.Maker.{KeepsStages}
 use Rattle.ig_task.specs.MakerLaws.{stages_went}
 use Rattle.ig_task.specs.Pipeline.{is_allowed}
@@ -31,7 +32,7 @@ making_keeps rule q old new ms m w quiet =
     stages_went m.kinds q old new ms (subst (λ r. Went (is_allowed r) old new ms) m.is w) quiet m.sound
 
 pub acted_keeps : (rule : Pipeline) (q : List ℕ) (old new : Log) (path : List ℕ) → IsMaking rule q (files_of old) → Acted (is_allowed rule) old new (act.Read path) → KeepsStages q (files_of old) (files_of new)
-acted_keeps rule q old new path m t = making_keeps rule q old new _ m t.went (tt, tt)
+acted_keeps rule q old new path m t = making_keeps rule q old new _ m (went_of t) (tt, tt)
 
 -- ---- one record
 

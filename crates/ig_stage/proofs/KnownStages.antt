@@ -17,7 +17,8 @@ use Rattle.ig_rule.specs.Facts.{KindLaws}
 use Rattle.ig_rule.specs.QueueFiles.{Record, queue_of}
 use Rattle.ig_rule.specs.Sound.{Sound}
 use Rattle.ig_rule.specs.Stages.{stages_in}
-use Rattle.ig_rule.specs.Went.{Listed}
+use Rattle.ig_defs.specs.Turns.{Listed}
+use Rattle.ig_rule.specs.WentOn.{went_of}
 use Rattle.ig_rule.specs.declared.role.Role.TheVariants.{Maker}
 use Rattle.ig_space.specs.ChunkNames.{is_path-segment}
 use Rattle.ig_space.specs.Path.{is_path, joined}
@@ -182,5 +183,5 @@ pub records_known : (rule now : Pipeline) (q : List ℕ) (old mid : Log) (new : 
     → GivesStages result (stages_of q 0 texts) → IfOk result (λ stages. KnowsStages q stages new)
 records_known rule now q old mid new dir given texts result maker kinds sound t is path short same finds counts parsed =
     let m : IsMaking rule q (files_of old) = record { is = maker; kinds = kinds; sound = sound } in
-    let first : KeepsStages q (files_of old) (files_of mid) = making_keeps rule q old mid _ m t.acted.went (tt, tt) in
+    let first : KeepsStages q (files_of old) (files_of mid) = making_keeps rule q old mid _ m (went_of t.acted) (tt, tt) in
     knows_result rule q old mid new dir given texts result m t is path short first (finds (still_making rule now q (files_of old) (files_of mid) same first m)) counts parsed

@@ -18,7 +18,8 @@ use Rattle.ig_rule.specs.QueueSteps.{queue_of-fits}
 use Rattle.ig_rule.specs.Sound.{Sound}
 use Rattle.ig_rule.specs.SoundKept.{sound_kept}
 use Rattle.ig_rule.specs.Stages.{Named, task_id}
-use Rattle.ig_rule.specs.Went.{Listed}
+use Rattle.ig_defs.specs.Turns.{Listed}
+use Rattle.ig_defs.specs.TurnLaws.{files_then}
 use Rattle.ig_record.specs.declared.stage.Stage.{Stage}
 use Rattle.ig_task.specs.Facts.{stage_reader}
 use Rattle.ig_task.specs.Maker.{Others}
@@ -74,7 +75,7 @@ does_list allows q n dir path given flags now old new e t marks = record {
 listed_once : (q : List ℕ) (n k : ℕ) (dir path : List ℕ) (given : List (List ℕ)) (old new : Log) → path ≡ joined q dir → Sound stage_reader q (files_of old)
     → Listed (Others q) old new path given → ShowsTask dir given n k → Named (queue_of q (files_of new)) (task_id n k)
 listed_once q n k dir path given old new e sound t h =
-    subst (λ files. Named (queue_of q files) (task_id n k)) (sym t.acted.files)
+    subst (λ files. Named (queue_of q files) (task_id n k)) (sym (files_then t.acted))
     (named_once q dir h.name (task_id n k) (files_of old) t.acted.others t.acted.by sound h.of_task
     (subst (λ (at : List ℕ). StandsOnce (files_of old) t.acted.others at h.name) e (t.names.only h.name h.among)))
 

@@ -10,8 +10,10 @@ use Rattle.ig_defs.specs.Log.{Log, files_of, replay}
 use Rattle.ig_defs.specs.Own.{Moment, steps_since}
 use Rattle.ig_meaning.specs.Call.{AllLook}
 use Rattle.ig_meaning.specs.Making.{Making, Unfinished, lists, reads}
-use Rattle.ig_rule.specs.Went.{Went, Acted, Idled, Listed}
-use Rattle.ig_rule.specs.WentOn.{EachMoment, LooksOnly, went_then, went_nothing}
+use Rattle.ig_defs.specs.Turns.{Acted, Idled, Listed}
+use Rattle.ig_defs.specs.TurnLaws.{files_then}
+use Rattle.ig_rule.specs.Went.{Went}
+use Rattle.ig_rule.specs.WentOn.{EachMoment, LooksOnly, went_then, went_nothing, went_of}
 use Rattle.ig_task.specs.Pipeline.{is_allowed}
 use Rattle.ig_task.specs.declared.pipeline.Pipeline.{Pipeline}
 use Rattle.ig_stage.specs.Errors.{make_error_of}
@@ -57,10 +59,10 @@ module _ (allows : Bool → Files → Act → Type 0) where
       → Acted allows old new (act.Read path) → IsMakingOf making next (record { files = files_of new; act = act.Read path } ∷ []) result → Looks allows making next old new result
   looks_once {T = T} making next old new result path t made = record {
     ms = record { files = replay (files_of old) t.others; act = act.Read path } ∷ [];
-    went = t.went;
+    went = went_of t;
     quiet = (tt, tt);
     truly = λ look. (tt, tt);
-    made = subst (λ files. IsMakingOf {T = T} making next (record { files = files; act = act.Read path } ∷ []) result) t.files made;
+    made = subst (λ files. IsMakingOf {T = T} making next (record { files = files; act = act.Read path } ∷ []) result) (files_then t) made;
   }
 
   -- a directory was listed
@@ -69,10 +71,10 @@ module _ (allows : Bool → Files → Act → Type 0) where
       → IsMakingOf making next (record { files = files_of new; act = act.List dir given } ∷ []) result → Looks allows making next old new result
   looks_listed {T = T} making next old new result dir given t names made = record {
     ms = record { files = replay (files_of old) t.acted.others; act = act.List dir given } ∷ [];
-    went = t.acted.went;
+    went = went_of t.acted;
     quiet = (tt, tt);
-    truly = λ look. (subst (λ files. AreNames files dir given) t.acted.files (names look), tt);
-    made = subst (λ files. IsMakingOf {T = T} making next (record { files = files; act = act.List dir given } ∷ []) result) t.acted.files made;
+    truly = λ look. (subst (λ files. AreNames files dir given) (files_then t.acted) (names look), tt);
+    made = subst (λ files. IsMakingOf {T = T} making next (record { files = files; act = act.List dir given } ∷ []) result) (files_then t.acted) made;
   }
 
   -- ---- parts of the making, one after the other
@@ -134,8 +136,8 @@ module _ (allows : Bool → Files → Act → Type 0) where
   -- a call failed before its step
   stopped : {U : Type 0} (making : List Moment → Making) (last : U → List Moment → Making) (old new : Log) (e : StoreError)
       → making [] ≡ Unfinished → Idled allows old new → Looks allows making last old new (Err (make_error_of e))
-  stopped making last old new store.Failed unfinished t = looks_idly making last old new (Err Failed) t.went unfinished
-  stopped making last old new store.Memory unfinished t = looks_idly making last old new (Err Memory) t.went tt
+  stopped making last old new store.Failed unfinished t = looks_idly making last old new (Err Failed) (went_of t) unfinished
+  stopped making last old new store.Memory unfinished t = looks_idly making last old new (Err Memory) (went_of t) tt
 
   pub looks_stopped : {U : Type 0} (making : List Moment → Making) (last : U → List Moment → Making) (old new : Log) (e : StoreError) (made : MakeError) (result : Result U MakeError)
       → result ≡ Err made → made ≡ make_error_of e → making [] ≡ Unfinished → Idled allows old new → Looks allows making last old new result

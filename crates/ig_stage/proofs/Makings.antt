@@ -11,7 +11,7 @@ use Rattle.ig_meaning.specs.Plan.{info_path, planned}
 use Rattle.ig_meaning.specs.Refusal as refusal
 use Rattle.ig_meaning.specs.Words.{Request}
 use Rattle.ig_record.specs.declared.stage.Stage.{Stage}
-use Rattle.ig_rule.specs.Went.{Acted}
+use Rattle.ig_defs.specs.Turns.{Acted}
 use Rattle.ig_stage.specs.Errors.{ending_of_make}
 use Rattle.ig_stage.specs.Looking.{IsErrorOf, Looks}
 use Rattle.ig_stage.specs.Making.{Explains}

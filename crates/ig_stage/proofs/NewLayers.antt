@@ -14,7 +14,7 @@ use Rattle.ig_meaning.specs.Refusal as refusal
 use Rattle.ig_meaning.specs.Taken.{unfit_after}
 use Rattle.ig_record.specs.declared.stage.InfoFile.{InfoFile}
 use Rattle.ig_record.specs.declared.stage.Stage.{Stage}
-use Rattle.ig_rule.specs.Went.{Acted, Idled, Listed}
+use Rattle.ig_defs.specs.Turns.{Acted, Idled, Listed}
 use Rattle.ig_stage.specs.Errors.{ending_of_make, make_error_of}
 use Rattle.ig_stage.specs.Looking.{AreNames, IsErrorOf, Looks, OthersLook}
 use Rattle.ig_stage.specs.Making.{IsJudged, JudgesFit}

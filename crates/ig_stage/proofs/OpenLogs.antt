@@ -11,8 +11,10 @@ use Rattle.ig_defs.specs.Own.{Moment}
 use Rattle.ig_rule.specs.Rule.{seal_text}
 use Rattle.ig_rule.specs.QueueFiles.{Seal, path_of}
 use Rattle.ig_rule.specs.Sound.{Legal}
-use Rattle.ig_rule.specs.Went.{Acted, Idled, WentList, WentPut}
-use Rattle.ig_rule.specs.WentOn.{acted_legal, idled_legal, went_nothing, went_then}
+use Rattle.ig_defs.specs.Turns.{Acted, Idled}
+use Rattle.ig_defs.specs.TurnLaws.{files_then}
+use Rattle.ig_rule.specs.Went.{WentList, WentPut}
+use Rattle.ig_rule.specs.WentOn.{acted_legal, idled_legal, went_nothing, went_then, went_of}
 use Rattle.ig_rule.specs.declared.role.Role.TheVariants.{Maker}
 use Rattle.ig_record.specs.declared.stage.Stage.{Stage}
 use Rattle.ig_meaning.specs.QueueActs.{acts_of}
@@ -33,7 +35,7 @@ pub does_nothing : (allows : Bool → Files → Act → Type 0) (log : Log) → 
 does_nothing allows log = record { ms = []; went = went_nothing allows log; are = refl }
 
 pub does_one : (allows : Bool → Files → Act → Type 0) (old new : Log) (a : Act) → Acted allows old new a → Does allows old new (a ∷ [])
-does_one allows old new a t = record { ms = record { files = replay (files_of old) t.others; act = a } ∷ []; went = t.went; are = refl }
+does_one allows old new a t = record { ms = record { files = replay (files_of old) t.others; act = a } ∷ []; went = went_of t; are = refl }
 
 pub does_then : (allows : Bool → Files → Act → Type 0) (old mid new : Log) (first then : List Act) → Does allows old mid first → Does allows mid new then → Does allows old new (first ++ then)
 does_then allows old mid new first then a b = record {
@@ -57,7 +59,7 @@ put_does allows old new path bytes (Err e) t = tt
 -- what holds once the file is put
 pub put_leaves : (allows : Bool → Files → Act → Type 0) (P : Files → Type 0) (old new : Log) (path bytes : List ℕ) (result : Result (Unit {0}) StoreError)
     → ((files : Files) → P (map.insert files path bytes)) → WentPut allows old new path bytes result → IfOk result (λ done. P (files_of new))
-put_leaves allows P old new path bytes (Ok done) holds t = subst P (sym t.files) (holds (replay (files_of old) t.others))
+put_leaves allows P old new path bytes (Ok done) holds t = subst P (sym (files_then t)) (holds (replay (files_of old) t.others))
 put_leaves allows P old new path bytes (Err e) holds t = tt
 
 -- ---- a stage that stays open
@@ -81,18 +83,18 @@ module _ (q : List ℕ) (n : ℕ) (s : Stage) where
 
   idled_stays : (old new : Log) → Idled (Others q) old new → Legal stage_reader q old → IsOpen q n s (files_of old) → StaysOpen q n s old new
   idled_stays old new t legal opened =
-      stays_as old new _ (idled_legal stage_reader Maker q old new t legal) t.files (others_stay_open q n s (files_of old) t.others t.by opened)
+      stays_as old new _ (idled_legal stage_reader Maker q old new t legal) (files_then t) (others_stay_open q n s (files_of old) t.others t.by opened)
 
   listed_stays : (old new : Log) (dir : List ℕ) (given : List (List ℕ)) → Acted (Others q) old new (act.List dir given) → Legal stage_reader q old → IsOpen q n s (files_of old) → StaysOpen q n s old new
   listed_stays old new dir given t legal opened =
-      stays_as old new _ (acted_legal stage_reader Maker q old new (act.List dir given) t tt legal) t.files (others_stay_open q n s (files_of old) t.others t.by opened)
+      stays_as old new _ (acted_legal stage_reader Maker q old new (act.List dir given) t tt legal) (files_then t) (others_stay_open q n s (files_of old) t.others t.by opened)
 
   put_stays : (old new : Log) (path bytes : List ℕ) → ((first files : Files) → KeepsOpen q n s first files → PutKeeps q n s first files path bytes)
       → Acted (Others q) old new (act.Put path bytes) → Legal stage_reader q old → IsOpen q n s (files_of old) → StaysOpen q n s old new
   put_stays old new path bytes keeps t legal opened =
       let now = others_stay_open q n s (files_of old) t.others t.by opened in
       let put = keeps (files_of old) (replay (files_of old) t.others) now in
-      stays_as old new _ (acted_legal stage_reader Maker q old new (act.Put path bytes) t put.may legal) t.files put.kept
+      stays_as old new _ (acted_legal stage_reader Maker q old new (act.Put path bytes) t put.may legal) (files_then t) put.kept
 
   went_put_stays : (old new : Log) (path bytes : List ℕ) (result : Result (Unit {0}) StoreError) → ((first files : Files) → KeepsOpen q n s first files → PutKeeps q n s first files path bytes)
       → WentPut (Others q) old new path bytes result → Legal stage_reader q old → IsOpen q n s (files_of old) → StaysOpen q n s old new

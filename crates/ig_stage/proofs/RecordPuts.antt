@@ -17,7 +17,9 @@ use Rattle.ig_rule.specs.QueuePaths.{no_queue_path}
 use Rattle.ig_rule.specs.Rule.{Allowed, a_record}
 use Rattle.ig_rule.specs.Sound.{Legal}
 use Rattle.ig_rule.specs.SoundKept.{sound_kept}
-use Rattle.ig_rule.specs.Went.{Acted, WentPut}
+use Rattle.ig_defs.specs.Turns.{Acted}
+use Rattle.ig_defs.specs.TurnLaws.{files_then}
+use Rattle.ig_rule.specs.Went.{WentPut}
 use Rattle.ig_rule.specs.WentOn.{acted_legal, idled_legal}
 use Rattle.ig_rule.specs.declared.role.Role.TheVariants.{Maker}
 use Rattle.ig_task.specs.Facts.{stage_reader}
@@ -86,7 +88,7 @@ module _ (q : List ℕ) (stages : List Stage) (s : Stage) (old new : Log) (can :
   put_legal t = acted_legal stage_reader Maker q old new record_put t (record_allowed q stages s (replay (files_of old) t.others) (can_then t)) legal
 
   put_opens : Acted (Others q) old new record_put → IsOpen q (length stages) s (files_of new)
-  put_opens t = subst (IsOpen q (length stages) s) (sym t.files) (record_opens q stages s (replay (files_of old) t.others) (can_then t))
+  put_opens t = subst (IsOpen q (length stages) s) (sym (files_then t)) (record_opens q stages s (replay (files_of old) t.others) (can_then t))
 
   result_legal : (result : Result (Unit {0}) StoreError) → WentPut (Others q) old new (record_path q (length stages)) (record_text (length stages) s) result → Legal stage_reader q new
   result_legal (Ok done) t = put_legal t

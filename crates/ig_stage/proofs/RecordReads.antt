@@ -10,7 +10,7 @@ use Rattle.ig_meaning.specs.Making.{Making, Refused, where_it_looks}
 use Rattle.ig_meaning.specs.QueueMaking.{if_found, making_of_queue, making_of_records, making_of_texts, record_count, record_path, stages_dir, stages_of}
 use Rattle.ig_meaning.specs.Refusal as refusal
 use Rattle.ig_record.specs.declared.stage.Stage.{Stage}
-use Rattle.ig_rule.specs.Went.{Acted, Listed}
+use Rattle.ig_defs.specs.Turns.{Acted, Listed}
 use Rattle.ig_task.specs.Pipeline.{is_allowed}
 use Rattle.ig_task.specs.declared.pipeline.Pipeline.{Pipeline}
 use Rattle.ig_stage.specs.Errors.{ending_of_make}

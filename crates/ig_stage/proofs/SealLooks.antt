@@ -12,7 +12,9 @@ use Rattle.ig_record.specs.declared.stage.Stage.{Stage}
 use Rattle.ig_rule.specs.Facts.{KindLaws}
 use Rattle.ig_rule.specs.QueueFiles.{Seal, queue_of}
 use Rattle.ig_rule.specs.Stages.{Sealed}
-use Rattle.ig_rule.specs.Went.{Went, Acted}
+use Rattle.ig_defs.specs.Turns.{Acted}
+use Rattle.ig_rule.specs.WentOn.{went_of}
+use Rattle.ig_rule.specs.Went.{Went}
 use Rattle.ig_rule.specs.declared.role.Role.TheVariants.{Maker}
 use Rattle.ig_task.specs.Facts.{stage_reader}
 use Rattle.ig_task.specs.Maker.{KnowsStages}
@@ -71,7 +73,7 @@ seal_known rule q stages n old new path found maker kinds k last few is t finds 
     known : KnowsStages q stages (files_of new)
     known =
         let ms : List Moment = record { files = replay (files_of old) t.others; act = act.Read path } ∷ [] in
-        knows_went kinds q stages old new ms (subst (λ r. Went (is_allowed r) old new ms) maker t.went) (tt, tt) k
+        knows_went kinds q stages old new ms (subst (λ r. Went (is_allowed r) old new ms) maker (went_of t)) (tt, tt) k
 
     seal : is_some (queue_of q (files_of new) (Seal n)) ≡ found
     seal = ap is_some (in_queue q (files_of new) (Seal n) (file_at (files_of new) path) (lt-ltb n (10 ^ 4) few) (ap (file_at (files_of new)) is)) ∙ sym finds

@@ -6,8 +6,9 @@ use Rattle.ig_defs.specs.declared.error.StoreError.{StoreError}
 use Rattle.ig_defs.specs.declared.error.StoreError.TheVariants.{Failed, Memory}
 use Rattle.ig_defs.specs.Files.{Files}
 use Rattle.ig_defs.specs.Log.{Log}
-use Rattle.ig_rule.specs.Went.{Acted, Idled, WentList, WentPut}
-use Rattle.ig_rule.specs.WentOn.{went_nothing, went_then}
+use Rattle.ig_defs.specs.Turns.{Acted, Idled}
+use Rattle.ig_rule.specs.Went.{WentList, WentPut}
+use Rattle.ig_rule.specs.WentOn.{went_nothing, went_then, went_of}
 use Rattle.ig_task.specs.Pipeline.{is_allowed}
 use Rattle.ig_task.specs.declared.pipeline.Pipeline.{Pipeline}
 use Rattle.ig_stage.specs.Open.{Does, DoesSome}
@@ -22,10 +23,10 @@ some_then rule next old mid new same a b =
 
 module _ (allows : Bool → Files → Act → Type 0) (old new : Log) where
   acted_some : (a : Act) → Acted allows old new a → DoesSome allows old new
-  acted_some a t = record { ms = _; went = t.went }
+  acted_some a t = record { ms = _; went = went_of t }
 
   idled_some : Idled allows old new → DoesSome allows old new
-  idled_some t = record { ms = []; went = t.went }
+  idled_some t = record { ms = []; went = went_of t }
 
   pub put_some : (path bytes : List ℕ) (result : Result (Unit {0}) StoreError) → WentPut allows old new path bytes result → DoesSome allows old new
   put_some path bytes (Ok done) t = acted_some (act.Put path bytes) t

@@ -11,13 +11,13 @@ use Rattle.ig_worker.specs.declared.phase.Phase.{Phase}
 use Rattle.ig_worker.specs.declared.phase.Phase.TheVariants.{ListingDone}
 use Rattle.ig_worker.specs.declared.turn.Line.TheVariants as line
 use Rattle.ig_worker.specs.declared.turn.Turn.TheVariants.{On}
-use Rattle.ig_worker.specs.Calls.{Lists, Names}
+use Rattle.ig_defs.specs.Answers.{IsAnswered, Lists, Names}
 use Rattle.ig_worker.specs.Fit.{IsFitPhase}
-use Rattle.ig_worker.specs.Led.{Goes, IsAnswered, Led, Made}
+use Rattle.ig_worker.specs.Steps.{answer_of, Made}
+use Rattle.ig_worker.specs.Led.{Goes, Led}
 use Rattle.ig_worker.specs.Moves.{ListsDead, ListsDone, Move, moves}
 use Rattle.ig_worker.specs.Places.{counted, stands}
 use Rattle.ig_worker.specs.Stages.{tasks_listed}
-use Rattle.ig_worker.specs.Steps.{answer_of}
 use Rattle.ig_worker.proofs.Exits.{Moves}
 use Rattle.ig_worker.proofs.Listings.{listed}
 

@@ -1,23 +1,21 @@
 -- How a step ends, by what its call on a store came to.
-use Rattle.std.proofs.Common.{◌≡◌, ◌⊎◌, Bool, [], Result, Err, refl, ap, sym, subst, ◌∙◌, inl, inr}
+use Rattle.std.proofs.Common.{◌≡◌, ◌⊎◌, Bool, Result, Err, ap, sym, subst, ◌∙◌, inl, inr}
 use Rattle.ig_defs.specs.declared.error.StoreError.{StoreError}
 use Rattle.ig_defs.specs.declared.error.StoreError.TheVariants as store
 use Rattle.ig_defs.specs.declared.step.Act.{Act}
 use Rattle.ig_defs.specs.Files.{Files}
 use Rattle.ig_defs.specs.Log.{Log}
-use Rattle.ig_rule.specs.Went.{Idled}
-use Rattle.ig_rule.specs.WentOn.{went_nothing}
+use Rattle.ig_defs.specs.TurnLaws.{idled_nothing}
+use Rattle.ig_defs.specs.Turns.{Idled}
 use Rattle.ig_worker.specs.declared.error.WorkerError.{WorkerError}
 use Rattle.ig_worker.specs.declared.error.WorkerError.TheVariants.{Failed, Memory}
 use Rattle.ig_worker.specs.declared.next.Next.{Next}
 use Rattle.ig_worker.specs.declared.notes.Notes.{Notes}
-use Rattle.ig_worker.specs.Calls.{Answer, Call}
+use Rattle.ig_defs.specs.Answers.{Answer, Answered, Call, IsAnswered}
 use Rattle.ig_worker.specs.Errors.{worker_error_of}
-use Rattle.ig_worker.specs.Led.{Answered, IsAnswered, Led, Made}
+use Rattle.ig_worker.specs.Steps.{Made}
+use Rattle.ig_worker.specs.Led.{Led}
 use Rattle.ig_worker.specs.Moves.{Move}
-
-pub idled_nothing : (allows : Bool → Files → Act → Type 0) (log : Log) → Idled allows log log
-idled_nothing allows log = record { others = []; by = tt; went = went_nothing allows log; files = refl }
 
 -- each answer to the call is a move of this sort
 abbrev pub Moves : (Bool → Files → Act → Type 0) → Log → Log → Call → (Move → Type 0) → Type 0
@@ -34,7 +32,8 @@ module _ (allows : Bool → Files → Act → Type 0) (old new : Log) (sort : Mo
   made_or_not (inr made) = inr (gives made.0 made.1)
 
   failed_by : (e : StoreError) → Answered allows old new call (Err e) → Led allows old new sort before now (Err (worker_error_of e))
-  failed_by store.Failed answered = made_or_not answered
+  failed_by store.Failed (inl idled) = inl idled
+  failed_by store.Failed (inr made) = inr (gives made.answer made.answered)
   failed_by store.Memory answered = inl answered
 
   -- the call failed

@@ -22,13 +22,13 @@ use Rattle.ig_worker.specs.declared.phase.Phase.{Phase}
 use Rattle.ig_worker.specs.declared.phase.Phase.TheVariants.{Fetching, Running}
 use Rattle.ig_worker.specs.declared.turn.Line.{Line}
 use Rattle.ig_worker.specs.declared.turn.Turn.TheVariants.{On}
-use Rattle.ig_worker.specs.Calls.{Answer, Reads, Found}
+use Rattle.ig_defs.specs.Answers.{Answer, Answered, Found, IsAnswered, Reads}
 use Rattle.ig_worker.specs.Errors.{worker_error_of}
 use Rattle.ig_worker.specs.Fit.{AreOpen, IsFetching, IsFitPhase, IsFound, IsLeased}
-use Rattle.ig_worker.specs.Led.{Answered, Goes, IsAnswered, Led, Made}
+use Rattle.ig_worker.specs.Steps.{answer_of, Made, turn_at}
+use Rattle.ig_worker.specs.Led.{Goes, Led}
 use Rattle.ig_worker.specs.Moves.{Move, ReadsInput, moves, said_of_input}
 use Rattle.ig_worker.specs.Places.{State, fetched, fetching, next_try, stands}
-use Rattle.ig_worker.specs.Steps.{answer_of, turn_at}
 use Rattle.ig_worker.proofs.Leading.{led_failed, led_on, read_made}
 
 -- ---- the next try

@@ -18,14 +18,14 @@ use Rattle.ig_worker.specs.declared.phase.Phase.TheVariants.{Finishing}
 use Rattle.ig_worker.specs.declared.turn.Line.{Line}
 use Rattle.ig_worker.specs.declared.turn.Turn.TheVariants.{On}
 use Rattle.ig_worker.specs.Acting.{WasCalled}
-use Rattle.ig_worker.specs.Calls.{Answer, Put, Removes, Shifts, WasThere}
+use Rattle.ig_defs.specs.Answers.{Answer, Answered, IsAnswered, Put, Removes, Shifts, WasThere}
 use Rattle.ig_worker.specs.Errors.{worker_error_of}
 use Rattle.ig_worker.specs.Fit.{HasText, IsFinishing}
-use Rattle.ig_worker.specs.Led.{Answered, Goes, IsAnswered, Led, Made}
+use Rattle.ig_worker.specs.Steps.{answer_of, Made}
+use Rattle.ig_worker.specs.Led.{Goes, Led}
 use Rattle.ig_worker.specs.Moves.{HandsOver, Move, call_by, call_for, moves}
 use Rattle.ig_worker.specs.Places.{stands}
-use Rattle.ig_worker.specs.Steps.{answer_of}
-use Rattle.ig_worker.proofs.Leading.{led_failed, led_not_called, led_on, shift_made}
+use Rattle.ig_worker.proofs.Leading.{led_failed, led_on, shift_made}
 
 -- ---- a name is moved, and where that leads is told by whether it was there
 module _ (notes : Notes) (first last : List ℕ) (place : Bool → Phase) (said : Bool → List Line) where
@@ -81,7 +81,7 @@ module _ (notes : Notes) (name : QueueName) (outputs : List Output) (names : Lis
       → Led allows old new (λ m. HandsOver notes name outputs names m) notes notes (Err (worker_error_of e))
   led_unsettled allows old new e a =
       subst (λ (os : List Output). Led allows old new (λ m. HandsOver notes name os names m) notes notes (Err (worker_error_of e))) (sym are)
-      (led_not_called allows old new (λ m. HandsOver notes name (output ∷ rest) names m) notes notes (call_for output) e a (made allows old new))
+      (led_failed allows old new (λ m. HandsOver notes name (output ∷ rest) names m) notes notes (call_for output) e a (made allows old new))
 
   pub still_finishing : IsFinishing notes name outputs names → IsFinishing notes name rest names
   still_finishing f = record {

@@ -13,7 +13,7 @@ use Rattle.ig_worker.specs.declared.phase.Phase.TheVariants.{Starting, Learning,
 use Rattle.ig_worker.specs.declared.turn.Line.{Line}
 use Rattle.ig_worker.specs.declared.turn.Line.TheVariants as line
 use Rattle.ig_worker.specs.declared.turn.Turn.{Turn}
-use Rattle.ig_worker.specs.Calls.{Answer, Call}
+use Rattle.ig_defs.specs.Answers.{Answer, Call}
 use Rattle.ig_worker.specs.Going.{GoesTo, IsSettled}
 use Rattle.ig_worker.specs.Left.{is_over}
 use Rattle.ig_worker.specs.Moves.{ActsOn, HandsOver, Leads, Makes, Move, Outcome, Refuses, TriesBy, moves, said_of_input}

@@ -1,31 +1,22 @@
 -- What a call on a store comes to leads on.
-use Rattle.std.proofs.Common.{◌≡◌, ℕ, Bool, List, [], Option, Result, Ok, Err, IfOk, refl, sym, ap, subst, ◌∙◌, inl, inr, append-nil}
+use Rattle.std.proofs.Common.{◌≡◌, ℕ, Bool, List, Option, Result, Ok, Err, IfOk, sym, ap, subst, ◌∙◌, inl, inr}
 use Rattle.ig_defs.specs.declared.error.StoreError.{StoreError}
 use Rattle.ig_defs.specs.declared.error.StoreError.TheVariants as store
 use Rattle.ig_defs.specs.declared.step.Act.{Act}
 use Rattle.ig_defs.specs.Files.{Files}
 use Rattle.ig_defs.specs.Log.{Log}
-use Rattle.ig_rule.specs.Went.{Idled}
+use Rattle.ig_defs.specs.TurnLaws.{idled_nothing}
 use Rattle.ig_worker.specs.declared.error.WorkerError.{WorkerError}
 use Rattle.ig_worker.specs.declared.error.WorkerError.TheVariants.{Absent, BadRecord, Failed, Memory}
 use Rattle.ig_worker.specs.declared.next.Next.{Next}
 use Rattle.ig_worker.specs.declared.notes.Notes.{Notes}
 use Rattle.ig_worker.specs.declared.turn.Line.{Line}
-use Rattle.ig_worker.specs.Acting.{WasCalled}
-use Rattle.ig_worker.specs.Calls.{Answer, Call, Names, Found, Put, Reads, Shifts, WasThere}
+use Rattle.ig_defs.specs.Answers.{Answer, Answered, Call, Found, IsAnswered, Names, Put, Reads, Shifts, WasThere}
 use Rattle.ig_worker.specs.Errors.{worker_error_of}
-use Rattle.ig_worker.specs.Led.{Answered, Goes, IsAnswered, Led, Made}
+use Rattle.ig_worker.specs.Steps.{Made}
+use Rattle.ig_worker.specs.Led.{Goes, Led}
 use Rattle.ig_worker.specs.Moves.{Move, moves}
 use Rattle.ig_worker.specs.Places.{State}
-
--- nothing was done
-pub idled_here : (allows : Bool → Files → Act → Type 0) (log : Log) → Idled allows log log
-idled_here allows log = record {
-  others = [];
-  by = tt;
-  went = record { steps = []; opening = refl; grown = sym (append-nil log.steps); others = tt; moments = refl };
-  files = refl;
-}
 
 module _ (allows : Bool → Files → Act → Type 0) (old new : Log) (sort : Move → Type 0) where
   abbrev pub AMove : Type 0
@@ -59,18 +50,12 @@ module _ (allows : Bool → Files → Act → Type 0) (old new : Log) (sort : Mo
     pub led_failed : (call : Call) (e : StoreError) → Answered allows old new call (Err e) → ((answer : Answer) → IsAnswered allows old new call answer → AMove)
         → Led allows old new sort before now (Err (worker_error_of e))
     led_failed call store.Failed (inl idled) each = inl idled
-    led_failed call store.Failed (inr (answer, made)) each = inr (each answer made)
+    led_failed call store.Failed (inr made) each = inr (each made.answer made.answered)
     led_failed call store.Memory idled each = inl idled
-
-    pub led_not_called : (call : Call) (e : StoreError) → WasCalled allows old new call (Err e) → ((answer : Answer) → IsAnswered allows old new call answer → AMove)
-        → Led allows old new sort before now (Err (worker_error_of e))
-    led_not_called call store.Failed (inl idled) each = inl idled
-    led_not_called call store.Failed (inr (answer, made)) each = inr (each answer made)
-    led_not_called call store.Memory idled each = inl idled
 
 -- memory ran out before the call
 pub led_before : (allows : Bool → Files → Act → Type 0) (log : Log) (sort : Move → Type 0) (before now : Notes) → Led allows log log sort before now (Err Memory)
-led_before allows log sort before now = inl (idled_here allows log)
+led_before allows log sort before now = inl (idled_nothing allows log)
 
 -- an error that is passed on
 pub led_error : (allows : Bool → Files → Act → Type 0) (old new : Log) (sort : Move → Type 0) (before now : Notes) (result : Result Next WorkerError) (e made : WorkerError) → result ≡ Err made → made ≡ e

@@ -14,13 +14,13 @@ use Rattle.ig_worker.specs.declared.phase.Phase.{Phase}
 use Rattle.ig_worker.specs.declared.phase.Then.{Then}
 use Rattle.ig_worker.specs.declared.phase.Then.TheVariants.{Try}
 use Rattle.ig_worker.specs.declared.turn.Turn.TheVariants.{On}
-use Rattle.ig_worker.specs.Calls.{Lists, Names, Found, Put, WasThere}
+use Rattle.ig_defs.specs.Answers.{Found, IsAnswered, Lists, Names, Put, WasThere}
 use Rattle.ig_worker.specs.Fit.{IsDue}
-use Rattle.ig_worker.specs.Led.{Goes, IsAnswered, Led, Made}
+use Rattle.ig_worker.specs.Steps.{Made, turn_at}
+use Rattle.ig_worker.specs.Led.{Goes, Led}
 use Rattle.ig_worker.specs.Moves.{ListsQueue, ListsStages, Move, moves}
 use Rattle.ig_worker.specs.Places.{asked, learning, stands}
 use Rattle.ig_worker.specs.Stages.{Known, unknown_listed, unknown_named}
-use Rattle.ig_worker.specs.Steps.{turn_at}
 use Rattle.ig_worker.proofs.AnyCandidates.{any_candidates}
 use Rattle.ig_worker.proofs.Exits.{Moves}
 use Rattle.ig_worker.proofs.Learns.{turn_learning}

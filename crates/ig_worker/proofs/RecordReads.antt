@@ -12,7 +12,8 @@ use Rattle.ig_record.specs.declared.stage.Stage.{Stage}
 use Rattle.ig_record.specs.Reading.{record_in}
 use Rattle.ig_record.specs.Sound.{is_sound}
 use Rattle.ig_meaning.specs.QueueMaking.{record_path}
-use Rattle.ig_rule.specs.Went.{Idled}
+use Rattle.ig_defs.specs.TurnLaws.{idled_nothing}
+use Rattle.ig_defs.specs.Turns.{Idled}
 use Rattle.ig_worker.specs.declared.error.WorkerError.{WorkerError}
 use Rattle.ig_worker.specs.declared.error.WorkerError.TheVariants.{Absent, BadRecord, Failed, Memory}
 use Rattle.ig_worker.specs.declared.next.Next.{Next}
@@ -21,16 +22,16 @@ use Rattle.ig_worker.specs.declared.phase.Phase.{Phase}
 use Rattle.ig_worker.specs.declared.phase.Phase.TheVariants.{Broken}
 use Rattle.ig_worker.specs.declared.phase.Then.{Then}
 use Rattle.ig_worker.specs.declared.turn.Turn.TheVariants.{On}
-use Rattle.ig_worker.specs.Calls.{Answer, Reads, Names, Found, Put, WasThere}
+use Rattle.ig_defs.specs.Answers.{Answer, Answered, Found, IsAnswered, Names, Put, Reads, WasThere}
 use Rattle.ig_worker.specs.Errors.{worker_error_of}
 use Rattle.ig_worker.specs.Fit.{AreFitNotes, AreStages, IsStage, number_of}
 use Rattle.ig_worker.specs.Learning.{GivesRecord, GivesStage}
-use Rattle.ig_worker.specs.Led.{Answered, Goes, IsAnswered, Led, Made}
+use Rattle.ig_worker.specs.Steps.{Made, turn_at}
+use Rattle.ig_worker.specs.Led.{Goes, Led}
 use Rattle.ig_worker.specs.Moves.{Move, ReadsRecord, moves}
 use Rattle.ig_worker.specs.Places.{learning, learnt, learnt_by, stands}
 use Rattle.ig_worker.specs.Stages.{Known, with_stage}
-use Rattle.ig_worker.specs.Steps.{turn_at}
-use Rattle.ig_worker.proofs.Exits.{Moves, idled_nothing}
+use Rattle.ig_worker.proofs.Exits.{Moves}
 use Rattle.ig_worker.proofs.Learns.{turn_learning}
 use Rattle.ig_worker.proofs.NotedStages.{each_with}
 
@@ -41,7 +42,8 @@ record_nothing allows log q n result e is memory = subst (GivesRecord allows log
 
 module _ (allows : Bool → Files → Act → Type 0) (old new : Log) (q : List ℕ) (n : ℕ) where
   failed_by : (e : StoreError) → Answered allows old new (Reads (record_path q n)) (Err e) → GivesRecord allows old new q n (Err (worker_error_of e))
-  failed_by store.Failed answered = answered
+  failed_by store.Failed (inl idled) = inl idled
+  failed_by store.Failed (inr made) = inr (made.answer, made.answered)
   failed_by store.Memory answered = inl answered
 
   -- it failed

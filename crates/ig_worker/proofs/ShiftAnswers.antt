@@ -5,8 +5,7 @@ use Rattle.ig_defs.specs.declared.step.Act.{Act}
 use Rattle.ig_defs.specs.Calls.{TakesShift}
 use Rattle.ig_defs.specs.Files.{Files}
 use Rattle.ig_defs.specs.Log.{Log, Turn}
-use Rattle.ig_worker.specs.Calls.{Shifts, WasThere}
-use Rattle.ig_worker.specs.Led.{Answered, answer_by}
+use Rattle.ig_defs.specs.Answers.{answer_by, Answered, Shifts, WasThere}
 use Rattle.ig_worker.proofs.Turns.{answers_shift}
 
 -- by whether the move was made

@@ -1,11 +1,10 @@
 -- A step of a worker, from what its parts did.
-use Rattle.std.specs.Prelude.{◌≡◌, ◌⊎◌, ℕ, Bool, Result, Ok, Err, List, [], ◌∷◌, length, ◌<◌, ◌↔◌, Option, None, IsSome, refl}
+use Rattle.std.specs.Prelude.{◌≡◌, ℕ, Bool, Result, Ok, Err, List, [], ◌∷◌, length, ◌<◌, ◌↔◌, Option, None, IsSome, refl}
 use Rattle.std.proofs.Common.{inl, inr, ap, sym, subst, ◌∙◌, arith, true≢false}
 use Rattle.ig_space.specs.declared.task_id.TaskId.{TaskId}
 use Rattle.ig_defs.specs.declared.step.Act.{Act}
 use Rattle.ig_defs.specs.Files.{Files}
 use Rattle.ig_defs.specs.Log.{Log}
-use Rattle.ig_rule.specs.Went.{Idled}
 use Rattle.ig_worker.specs.declared.error.WorkerError.{WorkerError}
 use Rattle.ig_worker.specs.declared.error.WorkerError.TheVariants.{Absent, BadRecord, Failed, Memory}
 use Rattle.ig_worker.specs.declared.next.Next.{Next}
@@ -13,29 +12,17 @@ use Rattle.ig_worker.specs.declared.notes.Notes.{Notes}
 use Rattle.ig_worker.specs.declared.phase.Phase.{Phase}
 use Rattle.ig_worker.specs.declared.turn.Turn.{Turn}
 use Rattle.ig_worker.specs.Going.{GoesOn, IsSettled}
-use Rattle.ig_worker.specs.Led.{Led, Made}
-use Rattle.ig_worker.specs.Moves.{Leads, Move}
+use Rattle.ig_worker.specs.Steps.{answer_of, calls, Rests, rests, Stepped, stops, StopsBy}
+use Rattle.ig_worker.specs.Led.{Led}
+use Rattle.ig_worker.specs.Moves.{Leads}
 use Rattle.ig_worker.specs.Places.{stands}
-use Rattle.ig_worker.specs.Steps.{Called, Rests, Stepped, calls, rests, stops, StopsBy, answer_of}
-
-called_of : (allows : Bool → Files → Act → Type 0) (from to : ℕ) (before : Notes) (phase : Phase) (old new : Log) (m : Move)
-    → Made allows old new (Leads from to before phase) m → Called allows from to (stands before phase) old new m
-called_of allows from to before phase old new m made =
-    record { act = made.answered.act; acted = made.answered.acted; grown = made.answered.grown; takes = made.answered.takes; leads = made.leads }
-
--- before the call, or after it
-called_or_idled : (allows : Bool → Files → Act → Type 0) (from to : ℕ) (before : Notes) (phase : Phase) (old new : Log)
-    → Idled allows old new ⊎ ((m : Move) × Made allows old new (Leads from to before phase) m)
-    → Idled allows old new ⊎ ((m : Move) × Called allows from to (stands before phase) old new m)
-called_or_idled allows from to before phase old new (inl idled) = inl idled
-called_or_idled allows from to before phase old new (inr made) = inr (made.0, called_of allows from to before phase old new made.0 made.1)
 
 stops_by : (allows : Bool → Files → Act → Type 0) (from to : ℕ) (before : Notes) (phase : Phase) (old new : Log) (now : Notes) (e : WorkerError)
     → GoesOn allows from to before phase old new now (Err e) → StopsBy allows from to (stands before phase) old new e
-stops_by allows from to before phase old new now (Absent path) (inl led) = (led.0, called_of allows from to before phase old new led.0 led.1, led.2)
-stops_by allows from to before phase old new now (BadRecord path member) (inl led) = (led.0, called_of allows from to before phase old new led.0 led.1, led.2)
-stops_by allows from to before phase old new now Failed (inl led) = called_or_idled allows from to before phase old new led
-stops_by allows from to before phase old new now Memory (inl led) = called_or_idled allows from to before phase old new led
+stops_by allows from to before phase old new now (Absent path) (inl led) = (led.0, led.1, led.2)
+stops_by allows from to before phase old new now (BadRecord path member) (inl led) = (led.0, led.1, led.2)
+stops_by allows from to before phase old new now Failed (inl led) = led
+stops_by allows from to before phase old new now Memory (inl led) = led
 stops_by allows from to before phase old new now e (inr rest) = absurd rest.1
 
 -- what goes on from a place is a step of the worker
@@ -44,7 +31,7 @@ pub stepped_by : (allows : Bool → Files → Act → Type 0) (from to : ℕ) (b
     → now.plan ≡ before.plan → GoesOn allows from to before phase old new now came → IsSettled came place result
     → Stepped allows from to (stands before phase) old new (stands now place) result
 stepped_by allows from to before phase old new now (Ok next) place result plan (inl led) settled =
-    calls led.0 (called_of allows from to before phase old new led.0 led.1) (ap (stands now) settled.1 ∙ sym led.2)
+    calls led.0 led.1 (ap (stands now) settled.1 ∙ sym led.2)
     next.turn settled.2 (ap (λ s. answer_of led.0.said s.phase) led.2 ∙ led.3)
 stepped_by allows from to before phase old new now (Ok next) place result plan (inr rest) settled =
     rests rest.0 (subst (λ p. Rests before phase (stands now p) result) (sym settled.1) (subst (λ r. Rests before phase (stands now next.phase) r) (sym settled.2) rest.1))

@@ -1,5 +1,5 @@
 -- A turn on a store answers the call.
-use Rattle.std.proofs.Common.{◌≡◌, ◌⊎◌, ℕ, Bool, true, false, List, [], ◌∷◌, ◌++◌, Option, is_some, Result, Ok, Err, refl, ap, sym, ◌∙◌, inl, inr, true≢false, append_assoc, append-nil}
+use Rattle.std.proofs.Common.{◌≡◌, ◌⊎◌, ℕ, Bool, true, false, List, [], ◌∷◌, Option, is_some, Result, Ok, Err, refl, sym, inl, inr}
 use Rattle.std.specs.FinMap as map
 use Rattle.ig_defs.specs.declared.step.Act.{Act}
 use Rattle.ig_defs.specs.declared.step.Act.TheVariants as act
@@ -8,58 +8,24 @@ use Rattle.ig_defs.specs.declared.error.StoreError.{StoreError}
 use Rattle.ig_defs.specs.declared.error.StoreError.TheVariants.{Failed, Memory}
 use Rattle.ig_defs.specs.Calls.{TakesRead, TakesNames, TakesPut, TakesShift, TakesRemove}
 use Rattle.ig_defs.specs.Files.{Files}
-use Rattle.ig_defs.specs.Log.{Log, Turn, files_of, own, own_all, replay}
-use Rattle.ig_defs.specs.Replay.{replay-append}
-use Rattle.ig_rule.specs.Went.{Idled, Went}
-use Rattle.ig_rule.specs.WentOn.{turn_read, went_then}
-use Rattle.ig_worker.specs.Calls.{Answer, Call, Lists, Reads, Puts, Shifts, Removes, Names, Found, Put, WasThere, Takes}
-use Rattle.ig_worker.specs.Led.{Answered, IsAnswered, answer_by, put_answer}
-
--- the log once others have taken these steps
-abbrev between : Log → List Step → Log
-between old others = record { opening = old.opening; steps = old.steps ++ others }
+use Rattle.ig_defs.specs.Log.{Log, Turn, files_of, replay}
+use Rattle.ig_defs.specs.Turns.{Idled}
+use Rattle.ig_rule.specs.WentOn.{grew_of}
+use Rattle.ig_defs.specs.Answers.{Answer, Answered, Call, Found, IsAnswered, IsChange, Lists, Names, Put, Puts, Reads, Removes, Shifts, Takes, WasMade, WasThere, answer_by, put_answer}
 
 module _ (allows : Bool → Files → Act → Type 0) (old new : Log) (P : Files → List Step → List Act → Type 0) (t : Turn allows old new P) where
   -- a turn without own acts
   idled : t.acts ≡ [] → Idled allows old new
-  idled none =
-      turn_read allows old new [] (Err Memory)
-      (record { others = t.others; acts = t.acts; by_others = t.by_others; opening = t.opening; grown = t.grown; files = t.files; took = none })
-
-  went_others : Went allows old (between old t.others) []
-  went_others =
-      let w = turn_read allows old (between old t.others) [] (Err Memory)
-      (record { others = t.others; acts = []; by_others = t.by_others; opening = refl; grown = ap (λ steps. old.steps ++ steps) (sym (append-nil t.others)); files = replay-append old.opening old.steps t.others; took = refl }) in
-      w.went
-
-  went_own : (a : Act) → t.acts ≡ a ∷ [] → Went allows (between old t.others) new (record { files = replay (files_of old) t.others; act = a } ∷ [])
-  went_own a one = record {
-    steps = own a ∷ [];
-    opening = t.opening;
-    grown = t.grown ∙ ap (λ acts. old.steps ++ (t.others ++ own_all acts)) one ∙ sym (append_assoc old.steps t.others (own a ∷ []));
-    others = (λ mine. absurd (true≢false mine), tt);
-    moments = ap (λ files. record { files = files; act = a } ∷ []) (replay-append old.opening old.steps t.others);
-  }
+  idled none = grew_of t [] none
 
   -- a turn with one own act, which found this
   answered : (a : Act) (call : Call) (answer : Answer) → t.acts ≡ a ∷ [] → Takes (files_of old) t.others call answer a → IsAnswered allows old new call answer
-  answered a call answer one takes = record {
-    act = a;
-    acted = record {
-      others = t.others;
-      by = t.by_others;
-      went = went_then allows old (between old t.others) new [] _ went_others (went_own a one);
-      files = t.files ∙ ap (λ acts. replay (replay (files_of old) t.others) (own_all acts)) one;
-    };
-    grown = t.grown ∙ ap (λ acts. old.steps ++ (t.others ++ own_all acts)) one;
-    takes = takes;
-  }
+  answered a call answer one takes = record { act = a; acted = grew_of t (a ∷ []) one; takes = takes }
 
   -- with one own act, or none, where the call failed
-  may_have : (a : Act) (call : Call) (answer : Answer) → (t.acts ≡ []) ⊎ (t.acts ≡ a ∷ []) × Takes (files_of old) t.others call answer a
-      → Idled allows old new ⊎ ((found : Answer) × IsAnswered allows old new call found)
-  may_have a call answer (inl none) = inl (idled none)
-  may_have a call answer (inr made) = inr (answer, answered a call answer made.0 made.1)
+  may_have : (a : Act) (call : Call) (answer : Answer) → IsChange call answer → (t.acts ≡ []) ⊎ (t.acts ≡ a ∷ []) × Takes (files_of old) t.others call answer a → Idled allows old new ⊎ WasMade allows old new call
+  may_have a call answer changes (inl none) = inl (idled none)
+  may_have a call answer changes (inr made) = inr (record { answer = answer; answered = answered a call answer made.0 made.1; changes = changes })
 
 module _ (allows : Bool → Files → Act → Type 0) (old new : Log) where
   pub answers_read : (path : List ℕ) (result : Result (Option (List ℕ)) StoreError)
@@ -81,7 +47,7 @@ module _ (allows : Bool → Files → Act → Type 0) (old new : Log) where
   pub answers_put : (path bytes : List ℕ) (result : Result (Unit {0}) StoreError)
       → Turn allows old new (TakesPut path bytes result) → Answered allows old new (Puts path bytes) (answer_by put_answer result)
   answers_put path bytes (Ok done) t = answered allows old new _ t (act.Put path bytes) (Puts path bytes) Put t.took refl
-  answers_put path bytes (Err Failed) t = may_have allows old new _ t (act.Put path bytes) (Puts path bytes) Put (put_made path bytes t.acts t.took)
+  answers_put path bytes (Err Failed) t = may_have allows old new _ t (act.Put path bytes) (Puts path bytes) Put tt (put_made path bytes t.acts t.took)
   answers_put path bytes (Err Memory) t = idled allows old new _ t t.took
 
   -- the file was there, and the act made, or it was not made
@@ -93,12 +59,12 @@ module _ (allows : Bool → Files → Act → Type 0) (old new : Log) where
       → Turn allows old new (TakesShift from to result) → Answered allows old new (Shifts from to) (answer_by WasThere result)
   answers_shift from to (Ok true) t = answered allows old new _ t (act.Move from to) (Shifts from to) (WasThere true) t.took.0 (refl, sym t.took.1)
   answers_shift from to (Ok false) t = answered allows old new _ t (act.Read from) (Shifts from to) (WasThere false) t.took.0 (refl, sym t.took.1)
-  answers_shift from to (Err Failed) t = may_have allows old new _ t (act.Move from to) (Shifts from to) (WasThere true) (when_there (act.Move from to) (is_some (map.get (replay (files_of old) t.others) from)) t.acts t.took)
+  answers_shift from to (Err Failed) t = may_have allows old new _ t (act.Move from to) (Shifts from to) (WasThere true) refl (when_there (act.Move from to) (is_some (map.get (replay (files_of old) t.others) from)) t.acts t.took)
   answers_shift from to (Err Memory) t = idled allows old new _ t t.took
 
   pub answers_remove : (path : List ℕ) (result : Result Bool StoreError)
       → Turn allows old new (TakesRemove path result) → Answered allows old new (Removes path) (answer_by WasThere result)
   answers_remove path (Ok true) t = answered allows old new _ t (act.Remove path) (Removes path) (WasThere true) t.took.0 (refl, sym t.took.1)
   answers_remove path (Ok false) t = answered allows old new _ t (act.Read path) (Removes path) (WasThere false) t.took.0 (refl, sym t.took.1)
-  answers_remove path (Err Failed) t = may_have allows old new _ t (act.Remove path) (Removes path) (WasThere true) (when_there (act.Remove path) (is_some (map.get (replay (files_of old) t.others) path)) t.acts t.took)
+  answers_remove path (Err Failed) t = may_have allows old new _ t (act.Remove path) (Removes path) (WasThere true) refl (when_there (act.Remove path) (is_some (map.get (replay (files_of old) t.others) path)) t.acts t.took)
   answers_remove path (Err Memory) t = idled allows old new _ t t.took

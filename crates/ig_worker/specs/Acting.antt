@@ -1,14 +1,13 @@
 -- What the parts of a worker's run come to.
-use Rattle.std.specs.Prelude.{◌≡◌, ◌⊎◌, ℕ, Bool, List, [], ◌∷◌, map, Option, is_some, Result, Ok, Err}
+use Rattle.std.specs.Prelude.{◌≡◌, ℕ, Bool, List, [], ◌∷◌, map, Option, is_some, Result, Ok, Err}
 use Rattle.std.specs.List.{All}
 use Rattle.ig_defs.specs.declared.error.StoreError.{StoreError}
-use Rattle.ig_defs.specs.declared.error.StoreError.TheVariants as store
 use Rattle.ig_defs.specs.declared.queue_name.QueueName.{QueueName}
 use Rattle.ig_defs.specs.declared.step.Act.{Act}
 use Rattle.ig_defs.specs.Files.{Files}
 use Rattle.ig_defs.specs.Log.{Log}
 use Rattle.ig_defs.specs.QueueNames.{task_of}
-use Rattle.ig_rule.specs.Went.{Idled}
+use Rattle.ig_defs.specs.Answers.{Answer, Answered, Call, IsAnswered, Shifts, WasThere}
 use Rattle.ig_cutout.specs.declared.types.Output.{Output}
 use Rattle.ig_record.specs.declared.stage.Stage.{Stage}
 use Rattle.ig_record.specs.Columns.{paths_of}
@@ -17,9 +16,7 @@ use Rattle.ig_worker.specs.declared.notes.Notes.{Notes}
 use Rattle.ig_worker.specs.declared.turn.Line.TheVariants as line
 use Rattle.ig_worker.specs.declared.turn.Why.{Why}
 use Rattle.ig_worker.specs.declared.turn.Why.TheVariants as why
-use Rattle.ig_worker.specs.Calls.{Answer, Call, Shifts, WasThere}
 use Rattle.ig_worker.specs.Fit.{HasText}
-use Rattle.ig_worker.specs.Led.{IsAnswered}
 use Rattle.ig_worker.specs.Moves.{Move, Makes, Outcome, Refuses, by_presence, dead_path, leased, moves, queued_path, said_if}
 use Rattle.ig_worker.specs.Places.{leased_or_gone, next_try, stands}
 
@@ -27,8 +24,7 @@ use Rattle.ig_worker.specs.Places.{leased_or_gone, next_try, stands}
 -- by the result: the call was made, whatever it found; one that failed may have been made
 abbrev pub WasCalled : (Bool → Files → Act → Type 0) → Log → Log → Call → Result (Unit {0}) StoreError → Type 0
 WasCalled allows old new call (Ok done) = (answer : Answer) × IsAnswered allows old new call answer
-WasCalled allows old new call (Err store.Failed) = Idled allows old new ⊎ ((answer : Answer) × IsAnswered allows old new call answer)
-WasCalled allows old new call (Err store.Memory) = Idled allows old new
+WasCalled allows old new call (Err e) = Answered allows old new call (Err e)
 
 -- the name of a lease, or that there is none, as an answer
 abbrev pub lease_answer : Option QueueName → Answer

@@ -7,10 +7,11 @@ use Rattle.ig_defs.specs.declared.step.Step.{Step}
 use Rattle.ig_defs.specs.Files.{Files}
 use Rattle.ig_defs.specs.Log.{Log, files_of}
 use Rattle.ig_defs.specs.Own.{steps_since}
+use Rattle.ig_defs.specs.TurnLaws.{prefix_of, prefix_then}
+use Rattle.ig_defs.specs.Turns.{Idled, IsPrefix}
 use Rattle.ig_rule.specs.Prefixes.{legal_sound}
 use Rattle.ig_rule.specs.declared.role.Role.{Role}
 use Rattle.ig_rule.specs.Sound.{Legal, Sound}
-use Rattle.ig_rule.specs.Went.{Idled}
 use Rattle.ig_task.specs.Facts.{stage_reader}
 use Rattle.ig_task.specs.Kinds.{kinds}
 use Rattle.ig_worker.specs.declared.error.WorkerError.{WorkerError}
@@ -20,7 +21,7 @@ use Rattle.ig_worker.specs.declared.phase.Phase.TheVariants.{Starting, Learning,
 use Rattle.ig_worker.specs.declared.plan.Plan.{Plan}
 use Rattle.ig_worker.specs.declared.turn.End.{End}
 use Rattle.ig_worker.specs.declared.turn.End.TheVariants.{Finished, Spent}
-use Rattle.ig_worker.specs.AloneCalls.{AreOwn, Grows, call_alone, called_grows, course_grows, grows_then, idled_grows, parts_own}
+use Rattle.ig_worker.specs.AloneCalls.{AreOwn, call_alone, parts_own}
 use Rattle.ig_worker.specs.AloneDone.{done_goes}
 use Rattle.ig_worker.specs.AloneGoing.{GoesOn, GoesOnAt, StaysGoing}
 use Rattle.ig_worker.specs.AloneListings.{closing_goes, dead_goes, learning_goes, starting_goes}
@@ -29,7 +30,7 @@ use Rattle.ig_worker.specs.AloneTasks.{fetching_goes, finishing_goes, running_go
 use Rattle.ig_worker.specs.AloneTries.{trying_goes}
 use Rattle.ig_worker.specs.CanFinish.{CanFinish}
 use Rattle.ig_worker.specs.Course.{Course, end_at, fresh}
-use Rattle.ig_worker.specs.EndsCourse.{course_later}
+use Rattle.ig_worker.specs.EndsCourse.{course_later, course_prefix}
 use Rattle.ig_worker.specs.EndsPlaces.{call_stays, course_keeps, fresh_stays}
 use Rattle.ig_worker.specs.Fit.{IsFitPhase}
 use Rattle.ig_worker.specs.KeepsLists.{none_in}
@@ -78,15 +79,15 @@ goes_on s = place_goes s.notes s.phase
 -- ---- a course
 -- So does a course during which nobody else takes a step.
 along : (role : Role) (plan : Plan) (at : ℕ) (first : Files) (from : ℕ) (s : State) (old : Log) (ms : List Move) (to : ℕ) (next : State) (last new : Log) → at ≤ from → to < 10 ^ 10 → Stays plan from s old
-    → GoesOn at first s (files_of old) → Course (AllowsFor role plan) from s old ms to next last → Grows last new → AreOwn old new → GoesOn at first next (files_of last)
+    → GoesOn at first s (files_of old) → Course (AllowsFor role plan) from s old ms to next last → IsPrefix last new → AreOwn old new → GoesOn at first next (files_of last)
 along role plan at first from s old [] to next last new later small stays goes c grows own =
     subst (λ (log : Log). GoesOn at first next (files_of log)) (sym c.2) (subst (λ (t : State). GoesOn at first t (files_of old)) (sym c.1) goes)
 along role plan at first from s old (m ∷ ms) to next last new later small stays goes c grows own =
     let allows = AllowsFor role plan in
     let after = c.2 in
     let rest = course_later allows c.0 m.next c.1 ms to next last c.4 in
-    let more = grows_then c.1 last new (course_grows allows c.0 m.next c.1 ms to next last c.4) grows in
-    let parts = parts_own old c.1 new (called_grows allows from c.0 s old c.1 m c.3) more own in
+    let more = prefix_then (course_prefix allows c.0 m.next c.1 ms to next last c.4) grows in
+    let parts = parts_own old c.1 new (prefix_of c.3.answered.acted) more own in
     let sound : Sound stage_reader s.notes.plan.queue (files_of old)
     = subst (λ (p : Plan). Sound stage_reader p.queue (files_of old)) (sym stays.place.of_plan) (legal_sound stage_reader kinds plan.queue old stays.legal) in
     let alone = call_alone role plan from c.0 s old c.1 m stays c.3 parts.0 in
@@ -126,7 +127,7 @@ pub alone_finishes : (role : Role) (plan : Plan) (from : ℕ) (old : Log) (ms : 
 alone_finishes role plan from old ms to next last new limits small legal can c idled own =
     let first = files_of old in
     let goes = along role plan from first from (fresh plan) old ms to next last new (omega arith) small (fresh_stays plan from old limits legal) (fresh_goes plan from first can) c
-    (idled_grows (AllowsFor role plan) last new idled) own in
+    (prefix_of idled) own in
     let stays = course_keeps role plan from old ms to next last limits small legal c in
     record {
       finishes = ends_finished from first (files_of last) next.notes next.phase stays.place.fit.phase goes.goes;

@@ -19,7 +19,7 @@ use Rattle.ig_worker.specs.declared.phase.Phase.TheVariants.{Starting, Learning,
 use Rattle.ig_worker.specs.declared.phase.Then.TheVariants.{Ask, Try, Count}
 use Rattle.ig_worker.specs.declared.plan.Plan.{Plan}
 use Rattle.ig_worker.specs.declared.turn.End.TheVariants.{Finished}
-use Rattle.ig_worker.specs.Calls.{Takes}
+use Rattle.ig_defs.specs.Answers.{Takes}
 use Rattle.ig_worker.specs.CanFinish.{AreInOrder, IsAhead, RunInOrder, stage_at, with_outputs}
 use Rattle.ig_worker.specs.Fit.{IsFit}
 use Rattle.ig_worker.specs.Knows.{Knows}

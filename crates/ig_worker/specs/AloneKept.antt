@@ -19,7 +19,7 @@ use Rattle.ig_rule.specs.SoundNames.{records_same}
 use Rattle.ig_rule.specs.Stages.{Clear, Records, stages_in}
 use Rattle.ig_task.specs.Facts.{stage_reader}
 use Rattle.ig_worker.specs.AloneGoing.{AllKnown, IsKept, IsRun}
-use Rattle.ig_worker.specs.Calls.{act_if}
+use Rattle.ig_defs.specs.Answers.{act_if}
 use Rattle.ig_worker.specs.CanFinish.{IsAhead}
 use Rattle.ig_worker.specs.Stages.{Known}
 

@@ -25,7 +25,7 @@ use Rattle.ig_worker.specs.declared.phase.Then.TheVariants.{Ask, Count, Try}
 use Rattle.ig_worker.specs.declared.turn.Line.{Line}
 use Rattle.ig_worker.specs.AloneGoing.{AllKnown, AreAhead, CalledAlone, GoesOn, GoesOnAt, IsKept, IsLearning, StaysGoing}
 use Rattle.ig_worker.specs.AloneNames.{is_empty, listing_learns, stands_dead, unknown_from}
-use Rattle.ig_worker.specs.Calls.{Found, Lists, Names, Reads, Takes}
+use Rattle.ig_defs.specs.Answers.{Found, Lists, Names, Reads, Takes}
 use Rattle.ig_worker.specs.CanFinish.{stage_at}
 use Rattle.ig_worker.specs.EndsClosing.{learnt_all_known, learnt_more}
 use Rattle.ig_worker.specs.EndsNames.{shown_from}

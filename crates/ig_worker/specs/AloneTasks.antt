@@ -33,7 +33,7 @@ use Rattle.ig_worker.specs.AloneKept.{ahead_on, all_on, kept_on, moved_on, queue
 use Rattle.ig_worker.specs.AloneLeft.{left_done, left_on}
 use Rattle.ig_worker.specs.AloneRuns.{chunk_is_apart, input_there, makes_of, path_is_apart}
 use Rattle.ig_worker.specs.AloneTries.{can_on, goes_fetching, goes_trying}
-use Rattle.ig_worker.specs.Calls.{Answer, Found, Names, Put, Takes, WasThere, act_if}
+use Rattle.ig_defs.specs.Answers.{Answer, Found, Names, Put, Takes, WasThere, act_if}
 use Rattle.ig_worker.specs.CanFinish.{RunInOrder, stage_at, with_outputs, with_text}
 use Rattle.ig_worker.specs.Fit.{AreFitNotes, IsFetching, IsFinishing, IsRunning}
 use Rattle.ig_worker.specs.KeepsFiles.{found-holds, next_path, next_path-among}

@@ -23,7 +23,7 @@ use Rattle.ig_worker.specs.AloneGoing.{AllKnown, AreTried, CanRun, GoesOn, GoesO
 use Rattle.ig_worker.specs.AloneKept.{IsTurned, ahead_as, all_on, kept_on, moved_on, some_name, turned_kept}
 use Rattle.ig_worker.specs.AloneLeft.{left_gone, left_leased}
 use Rattle.ig_worker.specs.AloneRuns.{can_after}
-use Rattle.ig_worker.specs.Calls.{Takes, act_if}
+use Rattle.ig_defs.specs.Answers.{Takes, act_if}
 use Rattle.ig_worker.specs.CanFinish.{IsAhead, stage_at}
 use Rattle.ig_worker.specs.Fit.{AreFitNotes}
 use Rattle.ig_worker.specs.KeepsLists.{first_in, none_in}

@@ -3,14 +3,18 @@ use Rattle.std.specs.Prelude.{◌≡◌, ◌≢◌, ◌≤◌, ◌<◌, ℕ, Boo
 use Rattle.ig_space.specs.Path.{joined}
 use Rattle.ig_space.specs.declared.task_id.TaskId.{TaskId}
 use Rattle.ig_defs.specs.declared.queue_name.QueueName.{QueueName}
+use Rattle.ig_defs.specs.declared.step.Act.{Act}
+use Rattle.ig_defs.specs.declared.step.Step.{Step}
+use Rattle.ig_defs.specs.Files.{Files}
 use Rattle.ig_defs.specs.Log.{Log, files_of}
 use Rattle.ig_defs.specs.Names.{StandsOnce, StandsThroughout}
 use Rattle.ig_defs.specs.QueueNames.{queue_file, queue_fits, task_file, task_fits}
+use Rattle.ig_defs.specs.Turns.{IsPrefix, ListedIn}
+use Rattle.ig_meaning.specs.QueueMaking.{stages_dir}
 use Rattle.ig_rule.specs.Facts.{Facts}
 use Rattle.ig_rule.specs.QueueFiles.{Done, queue_of}
 use Rattle.ig_rule.specs.declared.role.Role.{Role}
 use Rattle.ig_rule.specs.Stages.{Clear, Finished, stages_in}
-use Rattle.ig_rule.specs.Went.{Listed}
 use Rattle.ig_task.specs.Facts.{stage_reader}
 use Rattle.ig_worker.specs.declared.notes.Notes.{Notes}
 use Rattle.ig_worker.specs.declared.phase.Phase.TheVariants.{ListingDead, ListingDone}
@@ -24,33 +28,55 @@ use Rattle.ig_worker.specs.Places.{State, counted, stands}
 use Rattle.ig_worker.specs.Stages.{tasks_listed}
 use Rattle.ig_worker.specs.Standing.{AllowsFor, IsKnown, IsRecorded, Lasts, Stays}
 
--- ---- the course to an end
--- The queue was listed from this log on, after the clock's last answer was `asked_from`. No name that stood throughout that
--- listing, and was due then, is of a task of a stage that is recorded and not under removal in the log `mid`.
-pub record NoneOpen (role : Role) (plan : Plan) (asked_from : ℕ) (queues mid : Log) : Type 0 where
-  pub listed : Log
-  pub names : List (List ℕ)
-  pub lists : Listed (AllowsFor role plan) queues listed (joined plan.queue (codes "queue")) names
-  pub none : (name : QueueName) (t : Facts) → queue_fits name ≡ true → name.visible ≤ asked_from
-      → StandsThroughout (files_of queues) lists.acted.others (joined plan.queue (codes "queue")) (queue_file name)
-      → IsRecorded plan mid name.stage t → name.task < t.tasks → Clear (stages_in stage_reader plan.queue (files_of mid)) name.stage t → ⊥
+-- ---- the last listings
+abbrev pub queue_dir : Plan → List ℕ
+queue_dir plan = joined plan.queue (codes "queue")
 
--- Once the stages were listed for the last time, in the log `mid`, their records are read, so that each is known; then the dead
--- letters are listed, and then the done tasks. The dead letters are all that it says of these moves.
-pub record Ending (role : Role) (plan : Plan) (mid : Log) (ms : List Move) (next : State) (new : Log) : Type 0 where
+abbrev pub dead_dir : Plan → List ℕ
+dead_dir plan = joined plan.queue (codes "dead")
+
+abbrev pub done_dir : Plan → List ℕ
+done_dir plan = joined plan.queue (codes "done")
+
+-- Of a call whose log was `old` at first and is `new` now: an own listing of the directory that began at the moment `from`.
+pub record Listing (allows : Bool → Files → Act → Type 0) (old from new : Log) (dir : List ℕ) : Type 0 where
+  pub to : Log
+  pub names : List (List ℕ)
+  pub others : List Step
+  pub is : ListedIn allows old from to new dir names others
+
+-- In the call's log the queue was listed from the moment `queues` on, and this ended before the moment `mid`. No name that stood
+-- all through that listing, and was due by the clock's answer `now`, is of a task of a stage that is recorded and not under
+-- removal at `mid`.
+pub record NoneOpen (role : Role) (plan : Plan) (now : ℕ) (old queues mid new : Log) : Type 0 where
+  pub listing : Listing (AllowsFor role plan) old queues new (queue_dir plan)
+  pub later : IsPrefix listing.to mid
+  pub none : (name : QueueName) (t : Facts) → queue_fits name ≡ true → name.visible ≤ now
+      → StandsThroughout (files_of queues) listing.others (queue_dir plan) (queue_file name)
+      → IsRecorded plan mid name.stage t → name.task < t.tasks
+      → Clear (stages_in stage_reader plan.queue (files_of mid)) name.stage t → ⊥
+
+-- In the call's log the stages were listed for the last time from the moment `mid` on. Then their records were read, so that each
+-- is known; then the dead letters were listed, and right after them the done tasks, which ended at the moment `last`. The dead
+-- letters are all that the worker says of these moves.
+pub record Ending (role : Role) (plan : Plan) (old mid : Log) (ms : List Move) (next : State) (last new : Log) : Type 0 where
+  pub stages : Listing (AllowsFor role plan) old mid new (stages_dir plan.queue)
+  pub deads : Log
+  pub dones : Log
+  pub dead_names : List (List ℕ)
+  pub dead_others : List Step
+  pub later : IsPrefix stages.to deads
+  pub lists_dead : ListedIn (AllowsFor role plan) old deads dones new (dead_dir plan) dead_names dead_others
+  pub done_names : List (List ℕ)
+  pub done_others : List Step
+  pub lists_done : ListedIn (AllowsFor role plan) old dones last new (done_dir plan) done_names done_others
   pub notes : Notes
   pub dead_from : ℕ
   pub done_from : ℕ
   pub end_from : ℕ
-  pub deads : Log
-  pub dones : Log
-  pub dead_names : List (List ℕ)
-  pub done_names : List (List ℕ)
   pub before_deads : Stays plan dead_from (stands notes ListingDead) deads
   pub before_dones : Stays plan done_from (stands notes (ListingDone (tasks_listed dead_names))) dones
-  pub lists_dead : Listed (AllowsFor role plan) deads dones (joined plan.queue (codes "dead")) dead_names
-  pub lists_done : Listed (AllowsFor role plan) dones new (joined plan.queue (codes "done")) done_names
-  pub ended : Stays plan end_from (stands notes (counted notes.known (tasks_listed dead_names) done_names)) new
+  pub ended : Stays plan end_from (stands notes (counted notes.known (tasks_listed dead_names) done_names)) last
   pub lasts : Lasts plan.queue (files_of mid) (files_of deads)
   pub all : (n : ℕ) (t : Facts) → IsRecorded plan mid n t → IsKnown notes.known n
   pub is : next ≡ stands notes (counted notes.known (tasks_listed dead_names) done_names)
@@ -66,13 +92,14 @@ abbrev pub TellsNone : List Line → Type 0
 TellsNone [] = Unit {0}
 TellsNone (l ∷ lines) = (is_letter l ≡ false) × TellsNone lines
 
--- A fresh worker listed the queue for the last time, and none of its tasks could be leased; then it listed the stages for the
--- last time, and the dead letters, and the done tasks. It told no dead letter before that.
-pub record Ended (role : Role) (plan : Plan) (from : ℕ) (old : Log) (ms : List Move) (to : ℕ) (next : State) (new : Log) : Type 0 where
-  pub listing : LastListing (AllowsFor role plan) from (fresh plan) old ms to next new
+-- In a call whose log is `new` now, a fresh worker listed the queue for the last time, once the clock had answered what this move
+-- notes, and none of its tasks could be leased; then it listed the stages for the last time, and the dead letters, and the done
+-- tasks. It told no dead letter before that.
+pub record Ended (role : Role) (plan : Plan) (from : ℕ) (old : Log) (ms : List Move) (to : ℕ) (next : State) (last new : Log) : Type 0 where
+  pub listing : LastListing (AllowsFor role plan) from (fresh plan) old ms to next last
   pub round : LastRound (AllowsFor role plan) from (fresh plan) old listing.first listing.between listing.place listing.mid
-  pub none_open : NoneOpen role plan round.between round.mid listing.mid
-  pub ending : Ending role plan listing.mid (listing.move ∷ listing.rest) next new
+  pub none_open : NoneOpen role plan round.move.next.notes.at old round.mid listing.mid new
+  pub ending : Ending role plan old listing.mid (listing.move ∷ listing.rest) next last new
   pub told_none : TellsNone (said_of listing.first)
 
 -- ---- tasks
@@ -110,26 +137,33 @@ pub record AreNotDone (plan : Plan) (log : Log) (n : ℕ) : Type 0 where
   pub each : (id : TaskId) → Contains tasks id → IsNotDone plan log id
 
 -- ---- what an end means
--- No dead letter stood throughout the listing of dead letters.
-abbrev pub NoneIsDead : (role : Role) (plan : Plan) (mid : Log) (ms : List Move) (next : State) (new : Log) → Ending role plan mid ms next new → Type 0
-NoneIsDead role plan mid ms next new e = (id : TaskId) → task_fits id ≡ true → StandsThroughout (files_of e.deads) e.lists_dead.acted.others (joined plan.queue (codes "dead")) (task_file id) → ⊥
+-- No dead letter stood all through a listing of them that began at this moment, while others took these steps.
+abbrev pub NoneIsDead : Plan → Log → List Step → Type 0
+NoneIsDead plan deads others =
+    (id : TaskId) → task_fits id ≡ true → StandsThroughout (files_of deads) others (dead_dir plan) (task_file id) → ⊥
 
--- So many different tasks are done, and so is each task of each stage that was recorded in the log `mid`; and no dead letter stood.
-pub record Finishes (role : Role) (plan : Plan) (mid : Log) (ms : List Move) (next : State) (new : Log) (e : Ending role plan mid ms next new) (n : ℕ) : Type 0 where
-  pub tasks : AreDone plan new n
-  pub all : (k : ℕ) (t : Facts) → IsRecorded plan mid k t → Finished (queue_of plan.queue (files_of new)) k t
-  pub no_dead : NoneIsDead role plan mid ms next new e
+module _ (role : Role) (plan : Plan) (old mid : Log) (ms : List Move) (next : State) (last new : Log) (e : Ending role plan old mid ms next last new) where
+  -- So many different tasks are done, and so is each task of each stage that was recorded at the moment `mid`; and no dead letter
+  -- stood all through the last listing of those.
+  pub record Finishes (n : ℕ) : Type 0 where
+    pub tasks : AreDone plan last n
+    pub all : (k : ℕ) (t : Facts) → IsRecorded plan mid k t → Finished (queue_of plan.queue (files_of last)) k t
+    pub no_dead : NoneIsDead plan e.deads e.dead_others
 
--- So many different tasks of recorded stages were not done when the done tasks were listed, and no dead letter stood.
-pub record Waits (role : Role) (plan : Plan) (mid : Log) (ms : List Move) (next : State) (new : Log) (e : Ending role plan mid ms next new) (n : ℕ) : Type 0 where
-  pub some : 1 ≤ n
-  pub tasks : AreNotDone plan e.dones n
-  pub no_dead : NoneIsDead role plan mid ms next new e
+  -- So many different tasks of recorded stages were not done when the last listing of the done tasks began, and no dead letter
+  -- stood all through the last listing of those.
+  pub record Waits (n : ℕ) : Type 0 where
+    pub some : 1 ≤ n
+    pub tasks : AreNotDone plan e.dones n
+    pub no_dead : NoneIsDead plan e.deads e.dead_others
 
--- It tells so many dead letters, each of which stood at a moment of that listing.
-pub record Tells (role : Role) (plan : Plan) (mid : Log) (ms : List Move) (next : State) (new : Log) (e : Ending role plan mid ms next new) (count : ℕ) : Type 0 where
-  pub some : 1 ≤ count
-  pub letters : List TaskId
-  pub long : length letters ≡ count
-  pub said : said_of ms ≡ map line.Letter letters
-  pub stood : (id : TaskId) → Contains letters id → StandsOnce (files_of e.deads) e.lists_dead.acted.others (joined plan.queue (codes "dead")) (task_file id)
+  -- It tells so many dead letters: each of them stood at a moment of the last listing of them, and each that stood all through it
+  -- is among them.
+  pub record Tells (count : ℕ) : Type 0 where
+    pub some : 1 ≤ count
+    pub letters : List TaskId
+    pub long : length letters ≡ count
+    pub said : said_of ms ≡ map line.Letter letters
+    pub stood : (id : TaskId) → Contains letters id → StandsOnce (files_of e.deads) e.dead_others (dead_dir plan) (task_file id)
+    pub each : (id : TaskId) → task_fits id ≡ true
+        → StandsThroughout (files_of e.deads) e.dead_others (dead_dir plan) (task_file id) → Contains letters id

@@ -4,6 +4,8 @@ use Rattle.std.proofs.Common.{arith, ap, sym, subst, true≢false, ◌∙◌}
 use Rattle.std.proofs.lemmas.Option.{none-some, same_Some}
 use Rattle.ig_space.specs.declared.task_id.TaskId.{TaskId}
 use Rattle.ig_defs.specs.Log.{Log}
+use Rattle.ig_defs.specs.TurnLaws.{prefix_then}
+use Rattle.ig_defs.specs.Turns.{IsPrefix}
 use Rattle.ig_rule.specs.declared.role.Role.{Role}
 use Rattle.ig_rule.specs.Sound.{Legal}
 use Rattle.ig_task.specs.Facts.{stage_reader}
@@ -16,14 +18,14 @@ use Rattle.ig_worker.specs.declared.turn.End.TheVariants as end
 use Rattle.ig_worker.specs.AtEnd.{Ended, Finishes, Tells, Waits}
 use Rattle.ig_worker.specs.Course.{Course, end_at, fresh}
 use Rattle.ig_worker.specs.EndsClosing.{ending_of}
-use Rattle.ig_worker.specs.EndsCourse.{course_later, last_listing, last_round}
+use Rattle.ig_worker.specs.EndsCourse.{course_later, course_prefix, last_listing, last_round}
 use Rattle.ig_worker.specs.EndsDone.{are_done}
 use Rattle.ig_worker.specs.EndsEnding.{is_final}
 use Rattle.ig_worker.specs.EndsFinished.{all_done}
 use Rattle.ig_worker.specs.EndsPlaces.{course_keeps}
 use Rattle.ig_worker.specs.EndsRound.{round_ends}
 use Rattle.ig_worker.specs.EndsSaid.{course_none, is_late}
-use Rattle.ig_worker.specs.EndsWaiting.{are_not_done, dead_stood, no_dead_stood}
+use Rattle.ig_worker.specs.EndsWaiting.{all_told, are_not_done, dead_stood, no_dead_stood}
 use Rattle.ig_worker.specs.LastTimes.{is_ending, is_round}
 use Rattle.ig_worker.specs.Moves.{Move}
 use Rattle.ig_worker.specs.Places.{State, counted, end_by}
@@ -37,10 +39,10 @@ final_ends (Over end) e = refl
 final_ends (Telling letters count) e = refl
 final_ends phase e = absurd (true≢false (sym e))
 
-module _ (role : Role) (plan : Plan) (from : ℕ) (old : Log) (ms : List Move) (to : ℕ) (next : State) (new : Log) (limits : HasLimits plan) (small : to < 10 ^ 10) (legal : Legal stage_reader plan.queue old)
-    (c : Course (AllowsFor role plan) from (fresh plan) old ms to next new) where
+module _ (role : Role) (plan : Plan) (from : ℕ) (old : Log) (ms : List Move) (to : ℕ) (next : State) (new whole : Log) (limits : HasLimits plan) (small : to < 10 ^ 10) (legal : Legal stage_reader plan.queue old)
+    (c : Course (AllowsFor role plan) from (fresh plan) old ms to next new) (within : IsPrefix new whole) where
   -- So it has come to its end, unless it has spent its turns or was stopped.
-  pub ended : is_final next.phase ≡ true → Ended role plan from old ms to next new
+  pub ended : is_final next.phase ≡ true → Ended role plan from old ms to next new whole
   ended final =
       let l = last_listing (AllowsFor role plan) from (fresh plan) old ms to next new c refl (final_ends next.phase final) in
       let r = last_round (AllowsFor role plan) from (fresh plan) old l.first l.between l.place l.mid l.before refl (ap is_round l.there) in
@@ -48,11 +50,14 @@ module _ (role : Role) (plan : Plan) (from : ℕ) (old : Log) (ms : List Move) (
       let after_round = course_later (AllowsFor role plan) r.between r.place r.mid (r.move ∷ r.rest) l.between l.place l.mid r.later in
       let at_listing = course_keeps role plan from old l.first l.between l.place l.mid limits (omega (arith, after_listing, small)) legal l.before in
       let at_round = course_keeps role plan from old r.first r.between r.place r.mid limits (omega (arith, after_round, after_listing, small)) legal r.before in
+      let began : IsPrefix old l.mid = course_prefix (AllowsFor role plan) from (fresh plan) old l.first l.between l.place l.mid l.before in
+      let rest : IsPrefix l.mid whole = prefix_then (course_prefix (AllowsFor role plan) l.between l.place l.mid (l.move ∷ l.rest) to next new l.later) within in
       record {
         listing = l;
         round = r;
-        none_open = round_ends role plan r.between r.place r.mid r.move r.rest l.between l.place l.mid r.there at_round.place.of_plan l.there r.since r.later at_listing;
-        ending = ending_of role plan to small next new final l.mid l.between l.place l.move l.rest l.there at_listing l.later;
+        none_open = round_ends role plan r.between r.place old r.mid r.move r.rest l.between l.place l.mid whole r.there at_round.place.of_plan l.there r.since r.later at_listing
+            (course_prefix (AllowsFor role plan) from (fresh plan) old r.first r.between r.place r.mid r.before) rest;
+        ending = ending_of role plan to small next new final old l.mid whole within l.between l.place l.move l.rest l.there began at_listing l.later;
         told_none = course_none (AllowsFor role plan) from (fresh plan) old l.first l.between l.place l.mid l.before (ap is_late l.there);
       }
 
@@ -114,12 +119,12 @@ letters_count (id ∷ letters) left total count is = let same : count ≡ length
 
 -- ---- what an end means
 
-module _ (role : Role) (plan : Plan) (from : ℕ) (old : Log) (ms : List Move) (to : ℕ) (next : State) (new : Log) (limits : HasLimits plan) (small : to < 10 ^ 10) (legal : Legal stage_reader plan.queue old)
-    (c : Course (AllowsFor role plan) from (fresh plan) old ms to next new) where
-  ended_as : (e : End) → is_spent e ≡ false → end_at next.notes next.phase ≡ Some e → Ended role plan from old ms to next new
-  ended_as e kept is = ended role plan from old ms to next new limits small legal c (final_by next.notes next.phase e kept is)
+module _ (role : Role) (plan : Plan) (from : ℕ) (old : Log) (ms : List Move) (to : ℕ) (next : State) (new whole : Log) (limits : HasLimits plan) (small : to < 10 ^ 10) (legal : Legal stage_reader plan.queue old)
+    (c : Course (AllowsFor role plan) from (fresh plan) old ms to next new) (within : IsPrefix new whole) where
+  ended_as : (e : End) → is_spent e ≡ false → end_at next.notes next.phase ≡ Some e → Ended role plan from old ms to next new whole
+  ended_as e kept is = ended role plan from old ms to next new whole limits small legal c within (final_by next.notes next.phase e kept is)
 
-  end_is : (x : Ended role plan from old ms to next new) (e : End) → end_at next.notes next.phase ≡ Some e → IsEndOf (tasks_listed x.ending.dead_names) (all_unlisted x.ending.done_names x.ending.notes.known) (all_tasks x.ending.notes.known) e
+  end_is : (x : Ended role plan from old ms to next new whole) (e : End) → end_at next.notes next.phase ≡ Some e → IsEndOf (tasks_listed x.ending.dead_names) (all_unlisted x.ending.done_names x.ending.notes.known) (all_tasks x.ending.notes.known) e
   end_is x e is =
       let g = x.ending in
       end_of g.notes g.notes.known (tasks_listed g.dead_names) g.done_names e (ap (λ (s : State). end_at s.notes s.phase) (sym g.is) ∙ is)
@@ -127,22 +132,22 @@ module _ (role : Role) (plan : Plan) (from : ℕ) (old : Log) (ms : List Move) (
   -- Where it has finished so many tasks, they are done; and so is each task of each stage that was recorded when its last listing
   -- of the stages began. No dead letter stood.
   pub finished : (tasks : ℕ) → end_at next.notes next.phase ≡ Some (end.Finished tasks)
-      → (x : Ended role plan from old ms to next new) × Finishes role plan x.listing.mid (x.listing.move ∷ x.listing.rest) next new x.ending tasks
+      → (x : Ended role plan from old ms to next new whole) × Finishes role plan old x.listing.mid (x.listing.move ∷ x.listing.rest) next new whole x.ending tasks
   finished tasks is =
       let x = ended_as (end.Finished tasks) refl is in
       let l = x.listing in
       let left = no_letters (tasks_listed x.ending.dead_names) _ _ (end.Finished tasks) (λ count e. absurd (cc)) (end_is x (end.Finished tasks) is) in (
         x,
         record {
-          tasks = are_done role plan l.mid (l.move ∷ l.rest) next new x.ending tasks left.1.1 left.1.0;
-          all = all_done role plan l.mid (l.move ∷ l.rest) next new x.ending left.1.0;
-          no_dead = no_dead_stood role plan l.mid (l.move ∷ l.rest) next new x.ending left.0;
+          tasks = are_done role plan old l.mid (l.move ∷ l.rest) next new whole x.ending tasks left.1.1 left.1.0;
+          all = all_done role plan old l.mid (l.move ∷ l.rest) next new whole x.ending left.1.0;
+          no_dead = no_dead_stood role plan old l.mid (l.move ∷ l.rest) next new whole x.ending left.0;
         },
       )
 
   -- Where it waits for so many tasks, they are not done, no dead letter stood, and none of the queue's tasks could be leased.
   pub waiting : (n : ℕ) → end_at next.notes next.phase ≡ Some (end.Waiting n)
-      → (x : Ended role plan from old ms to next new) × Waits role plan x.listing.mid (x.listing.move ∷ x.listing.rest) next new x.ending n
+      → (x : Ended role plan from old ms to next new whole) × Waits role plan old x.listing.mid (x.listing.move ∷ x.listing.rest) next new whole x.ending n
   waiting n is =
       let x = ended_as (end.Waiting n) refl is in
       let l = x.listing in
@@ -150,14 +155,14 @@ module _ (role : Role) (plan : Plan) (from : ℕ) (old : Log) (ms : List Move) (
         x,
         record {
           some = left.1.0;
-          tasks = are_not_done role plan l.mid (l.move ∷ l.rest) next new x.ending n left.1.1;
-          no_dead = no_dead_stood role plan l.mid (l.move ∷ l.rest) next new x.ending left.0;
+          tasks = are_not_done role plan old l.mid (l.move ∷ l.rest) next new whole x.ending n left.1.1;
+          no_dead = no_dead_stood role plan old l.mid (l.move ∷ l.rest) next new whole x.ending left.0;
         },
       )
 
   -- Where it tells so many dead letters, each of them stood, and none of the queue's tasks could be leased.
   pub letters : (count : ℕ) → end_at next.notes next.phase ≡ Some (end.Letters count)
-      → (x : Ended role plan from old ms to next new) × Tells role plan x.listing.mid (x.listing.move ∷ x.listing.rest) next new x.ending count
+      → (x : Ended role plan from old ms to next new whole) × Tells role plan old x.listing.mid (x.listing.move ∷ x.listing.rest) next new whole x.ending count
   letters count is =
       let x = ended_as (end.Letters count) refl is in
       let l = x.listing in
@@ -168,6 +173,7 @@ module _ (role : Role) (plan : Plan) (from : ℕ) (old : Log) (ms : List Move) (
           letters = tasks_listed x.ending.dead_names;
           long = many.1;
           said = x.ending.says;
-          stood = dead_stood role plan l.mid (l.move ∷ l.rest) next new x.ending;
+          stood = dead_stood role plan old l.mid (l.move ∷ l.rest) next new whole x.ending;
+          each = all_told role plan old l.mid (l.move ∷ l.rest) next new whole x.ending;
         },
       )

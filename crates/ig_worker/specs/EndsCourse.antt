@@ -1,9 +1,11 @@
 -- A worker that has come to its end has listed the stages for the last time, and the queue before.
 use Rattle.std.specs.Prelude.{◌≡◌, ◌⊎◌, ◌≤◌, ℕ, Bool, true, false, List, [], ◌∷◌, refl}
-use Rattle.std.proofs.Common.{arith, inl, inr, ap, sym, ◌∙◌}
+use Rattle.std.proofs.Common.{arith, inl, inr, ap, sym, subst, ◌∙◌}
 use Rattle.ig_defs.specs.declared.step.Act.{Act}
 use Rattle.ig_defs.specs.Files.{Files}
 use Rattle.ig_defs.specs.Log.{Log}
+use Rattle.ig_defs.specs.TurnLaws.{prefix_itself, prefix_of, prefix_then}
+use Rattle.ig_defs.specs.Turns.{IsPrefix}
 use Rattle.ig_worker.specs.declared.notes.Notes.{Notes}
 use Rattle.ig_worker.specs.declared.phase.Phase.{Phase}
 use Rattle.ig_worker.specs.declared.phase.Phase.TheVariants.{Asking, Closing}
@@ -20,6 +22,11 @@ course_later allows from s old (m ∷ ms) to next new c =
     let later = course_later allows c.0 m.next c.1 ms to next new c.4 in
     let first = c.2 in
     omega (arith, later, first)
+
+-- the log where it began is a prefix of the log where it ends
+pub course_prefix : (allows : Bool → Files → Act → Type 0) (from : ℕ) (s : State) (old : Log) (ms : List Move) (to : ℕ) (next : State) (new : Log) → Course allows from s old ms to next new → IsPrefix old new
+course_prefix allows from s old [] to next new c = subst (IsPrefix old) (sym c.2) (prefix_itself old)
+course_prefix allows from s old (m ∷ ms) to next new c = prefix_then (prefix_of c.3.answered.acted) (course_prefix allows c.0 m.next c.1 ms to next new c.4)
 
 pub all_first : (P : Phase → Bool) (s : State) (ms : List Move) → AreAll P s ms → P s.phase ≡ true
 all_first P s [] all = all

@@ -4,6 +4,7 @@ use Rattle.std.proofs.Common.{arith, inl, inr, sym, subst, ◌∙◌}
 use Rattle.ig_space.specs.declared.task_id.TaskId.{TaskId}
 use Rattle.ig_defs.specs.Log.{Log, files_of}
 use Rattle.ig_defs.specs.QueueNames.{task_file}
+use Rattle.ig_defs.specs.TurnLaws.{grew_in, prefix_of}
 use Rattle.ig_record.specs.declared.stage.Stage.{Stage}
 use Rattle.ig_record.specs.Stage.{task_count}
 use Rattle.ig_rule.specs.declared.role.Role.{Role}
@@ -12,14 +13,14 @@ use Rattle.ig_task.specs.Facts.{facts_of, stage_reader}
 use Rattle.ig_worker.specs.declared.plan.Plan.{Plan}
 use Rattle.ig_worker.specs.AtEnd.{AreDone, Ending, IsDone}
 use Rattle.ig_worker.specs.EndsFinished.{each_listed, given_then_done, listed_among}
-use Rattle.ig_worker.specs.EndsLasts.{lasts_went}
+use Rattle.ig_worker.specs.EndsLasts.{lasts_later}
 use Rattle.ig_worker.specs.EndsLeft.{all_left, different-all_left, left_is, length-all_left}
 use Rattle.ig_worker.specs.KeepsLists.{in_cases, map_in, none_in}
 use Rattle.ig_worker.specs.Knows.{kept_of}
 use Rattle.ig_worker.specs.Moves.{Move}
 use Rattle.ig_worker.specs.Places.{State}
 use Rattle.ig_worker.specs.Stages.{Known, all_tasks, all_unlisted, unlisted}
-use Rattle.ig_worker.specs.Standing.{AllowsFor, IsRecorded}
+use Rattle.ig_worker.specs.Standing.{IsRecorded}
 
 -- ---- all tasks are those that an empty listing doesn't show
 abbrev nothing : List (List ℕ)
@@ -48,7 +49,7 @@ none_of given (r ∷ rest) x none among =
     let more : all_unlisted given rest ≡ 0 = omega (arith, none) in
     none_by given r rest x first (none_of given rest x more) (in_cases r rest x among)
 
-module _ (role : Role) (plan : Plan) (mid : Log) (ms : List Move) (next : State) (new : Log) (e : Ending role plan mid ms next new) where
+module _ (role : Role) (plan : Plan) (old mid : Log) (ms : List Move) (next : State) (new whole : Log) (e : Ending role plan old mid ms next new whole) where
   known_recorded : (x : ℕ × Stage) → Contains e.notes.known x → IsRecorded plan e.dones x.0 (facts_of x.0 x.1)
   known_recorded x among =
       subst (λ (p : Plan). stages_in stage_reader p.queue (files_of e.dones) x.0 ≡ Some (facts_of x.0 x.1)) e.before_dones.place.of_plan
@@ -60,12 +61,12 @@ module _ (role : Role) (plan : Plan) (mid : Log) (ms : List Move) (next : State)
       let x : ℕ × Stage = (id.stage, h.stage) in
       let recorded = known_recorded x h.among in
       let listed = each_listed e.done_names id.stage (task_count h.stage) id.task (none_of e.done_names e.notes.known x none h.among) h.below in
-      let lasts = lasts_went (AllowsFor role plan) plan.queue e.dones new _ e.lists_done.acted.went e.before_dones.legal e.ended.legal in
+      let lasts = lasts_later plan.queue e.dones new (prefix_of (grew_in e.lists_done)) e.before_dones.legal e.ended.legal in
       record {
         stage = facts_of id.stage h.stage;
         is = lasts.stages id.stage (facts_of id.stage h.stage) recorded;
         below = h.below;
-        done = given_then_done role plan mid ms next new e id.stage id.task (facts_of id.stage h.stage) recorded h.below (listed_among e.done_names (task_file id) listed);
+        done = given_then_done role plan old mid ms next new whole e id.stage id.task (facts_of id.stage h.stage) recorded h.below (listed_among e.done_names (task_file id) listed);
       }
 
   -- where none is unlisted, all are done

@@ -8,20 +8,22 @@ use Rattle.ig_defs.specs.declared.step.Act.TheVariants as act
 use Rattle.ig_defs.specs.Calls.{ListsNames}
 use Rattle.ig_defs.specs.Files.{Files}
 use Rattle.ig_defs.specs.Log.{Log, files_of}
+use Rattle.ig_defs.specs.TurnLaws.{grew_in, listed_in, prefix_of, prefix_then}
+use Rattle.ig_defs.specs.Turns.{Acted, IsPrefix, Listed}
+use Rattle.ig_meaning.specs.QueueMaking.{stages_dir}
 use Rattle.ig_rule.specs.Facts.{Facts}
 use Rattle.ig_rule.specs.declared.role.Role.{Role}
-use Rattle.ig_rule.specs.Went.{Acted, Listed}
 use Rattle.ig_worker.specs.declared.notes.Notes.{Notes}
 use Rattle.ig_worker.specs.declared.phase.Phase.{Phase}
 use Rattle.ig_worker.specs.declared.phase.Phase.TheVariants.{ListingDead, ListingDone, Telling, Over}
 use Rattle.ig_worker.specs.declared.plan.Plan.{Plan}
 use Rattle.ig_worker.specs.declared.turn.Line.{Line}
 use Rattle.ig_worker.specs.declared.turn.Line.TheVariants as line
-use Rattle.ig_worker.specs.AtEnd.{Ending}
-use Rattle.ig_worker.specs.Calls.{Lists, Names, Takes}
+use Rattle.ig_worker.specs.AtEnd.{Ending, Listing}
+use Rattle.ig_defs.specs.Answers.{Lists, Names, Takes}
 use Rattle.ig_worker.specs.Course.{Course, said_of}
-use Rattle.ig_worker.specs.EndsCourse.{course_later}
-use Rattle.ig_worker.specs.EndsLasts.{lasts_went}
+use Rattle.ig_worker.specs.EndsCourse.{course_later, course_prefix}
+use Rattle.ig_worker.specs.EndsLasts.{lasts_later}
 use Rattle.ig_worker.specs.EndsPlaces.{call_stays}
 use Rattle.ig_worker.specs.Moves.{Leads, Move, moves}
 use Rattle.ig_worker.specs.Places.{State, counted, stands}
@@ -36,20 +38,24 @@ is_final (Telling letters count) = true
 is_final phase = false
 
 -- with a move more, which says nothing
-pub one_more : (role : Role) (plan : Plan) (mid : Log) (m : Move) (ms : List Move) (next : State) (new : Log) → m.said ≡ [] → Ending role plan mid ms next new → Ending role plan mid (m ∷ ms) next new
-one_more role plan mid m ms next new nothing e = record {
+pub one_more : (role : Role) (plan : Plan) (old mid : Log) (m : Move) (ms : List Move) (next : State) (last new : Log) → m.said ≡ [] → Ending role plan old mid ms next last new → Ending role plan old mid (m ∷ ms) next last new
+one_more role plan old mid m ms next last new nothing e = record {
+  stages = e.stages;
+  deads = e.deads;
+  dones = e.dones;
+  dead_names = e.dead_names;
+  dead_others = e.dead_others;
+  later = e.later;
+  lists_dead = e.lists_dead;
+  done_names = e.done_names;
+  done_others = e.done_others;
+  lists_done = e.lists_done;
   notes = e.notes;
   dead_from = e.dead_from;
   done_from = e.done_from;
   end_from = e.end_from;
-  deads = e.deads;
-  dones = e.dones;
-  dead_names = e.dead_names;
-  done_names = e.done_names;
   before_deads = e.before_deads;
   before_dones = e.before_dones;
-  lists_dead = e.lists_dead;
-  lists_done = e.lists_done;
   ended = e.ended;
   lasts = e.lasts;
   all = e.all;
@@ -67,13 +73,13 @@ by_act allows old new dir given a e =
 pub listed_by : (allows : Bool → Files → Act → Type 0) (from to : ℕ) (s : State) (old new : Log) (m : Move) (dir : List ℕ) (given : List (List ℕ)) (next : State) (said : List Line)
     → m ≡ moves (Lists dir) (Names given) next said → Called allows from to s old new m → Listed allows old new dir given
 listed_by allows from to s old new m dir given next said e c =
-    let takes = subst (λ (v : Move). Takes (files_of old) c.acted.others v.call v.answer c.act) e c.takes in
-    by_act allows old new dir given c.act takes.0 c.acted takes.1
+    let takes = subst (λ (v : Move). Takes (files_of old) c.answered.acted.others v.call v.answer c.answered.act) e c.answered.takes in
+    by_act allows old new dir given c.answered.act takes.0 c.answered.acted takes.1
 
 -- ---- one step
 pub step_lasts : (role : Role) (plan : Plan) (from to : ℕ) (s : State) (old new : Log) (m : Move) → Stays plan from s old → Stays plan to m.next new → Called (AllowsFor role plan) from to s old new m
     → Lasts plan.queue (files_of old) (files_of new)
-step_lasts role plan from to s old new m stays later c = lasts_went (AllowsFor role plan) plan.queue old new _ c.acted.went stays.legal later.legal
+step_lasts role plan from to s old new m stays later c = lasts_later plan.queue old new (prefix_of c.answered.acted) stays.legal later.legal
 
 -- a place from which no call is made
 abbrev pub IsStuck : State → Type 0
@@ -131,33 +137,42 @@ module _ (role : Role) (plan : Plan) (to : ℕ) (small : to < 10 ^ 10) (next : S
         says = ap (λ (v : Move). v.said ++ said_of ms) leads.1 ∙ ap (λ said. map line.Letter letters ++ said) last.2 ∙ append-nil (map line.Letter letters);
       }
 
-  module _ (mid : Log) where
-    -- ---- the dead letters are listed
-    pub after_deads : (from : ℕ) (notes : Notes) (deads : Log) (ms : List Move) → Stays plan from (stands notes ListingDead) deads → Lasts plan.queue (files_of mid) (files_of deads)
-        → ((n : ℕ) (t : Facts) → IsRecorded plan mid n t → IsKnown notes.known n) → Goes from (stands notes ListingDead) deads ms → Ending role plan mid ms next new
-    after_deads from notes deads [] stays lasts all c = absurd (not_there (stands notes ListingDead) refl c.1)
-    after_deads from notes deads (m ∷ ms) stays lasts all c =
+  -- ---- the dead letters are listed
+  -- in the call from `first` to `whole`, whose moments these are
+  module _ (first mid whole : Log) (within : IsPrefix new whole) where
+    pub after_deads : (from : ℕ) (notes : Notes) (deads : Log) (ms : List Move) → (l : Listing (AllowsFor role plan) first mid whole (stages_dir plan.queue)) → IsPrefix l.to deads → Stays plan from (stands notes ListingDead) deads
+        → Lasts plan.queue (files_of mid) (files_of deads) → ((n : ℕ) (t : Facts) → IsRecorded plan mid n t → IsKnown notes.known n) → Goes from (stands notes ListingDead) deads ms
+        → Ending role plan first mid ms next new whole
+    after_deads from notes deads [] l later stays lasts all c = absurd (not_there (stands notes ListingDead) refl c.1)
+    after_deads from notes deads (m ∷ ms) l later stays lasts all c =
         let leads = c.3.leads in
         let names = leads.0 in
         let place = stands notes (ListingDone (tasks_listed names)) in
         let there : m.next ≡ place = ap (λ (v : Move). v.next) leads.1 in
-        let later : Stays plan c.0 place c.1 = subst (λ s. Stays plan c.0 s c.1) there (next_stays from (stands notes ListingDead) deads m ms stays c) in
-        let dones = after_dones c.0 notes (tasks_listed names) c.1 ms later (subst (λ s. Goes c.0 s c.1 ms) there c.4) in
+        let after : Stays plan c.0 place c.1 = subst (λ s. Stays plan c.0 s c.1) there (next_stays from (stands notes ListingDead) deads m ms stays c) in
+        let dones = after_dones c.0 notes (tasks_listed names) c.1 ms after (subst (λ s. Goes c.0 s c.1 ms) there c.4) in
         let lists = listed_by (AllowsFor role plan) from c.0 (stands notes ListingDead) deads c.1 m (joined notes.plan.queue (codes "dead")) names place [] leads.1 c.3 in
         let of_plan : notes.plan ≡ plan = stays.place.of_plan in
+        let lists_dead = subst (λ (p : Plan). Listed (AllowsFor role plan) deads c.1 (joined p.queue (codes "dead")) names) of_plan lists in
+        let lists_done = subst (λ (p : Plan). Listed (AllowsFor role plan) c.1 new (joined p.queue (codes "done")) dones.names) of_plan dones.lists in
+        let began : IsPrefix first deads = prefix_then l.is.began (prefix_then (prefix_of (grew_in l.is)) later) in
         record {
+          stages = l;
+          deads = deads;
+          dones = c.1;
+          dead_names = names;
+          dead_others = lists_dead.acted.others;
+          later = later;
+          lists_dead = listed_in began lists_dead (prefix_then (course_prefix (AllowsFor role plan) c.0 m.next c.1 ms to next new c.4) within);
+          done_names = dones.names;
+          done_others = lists_done.acted.others;
+          lists_done = listed_in (prefix_then began (prefix_of lists_dead.acted)) lists_done within;
           notes = notes;
           dead_from = from;
           done_from = c.0;
           end_from = dones.ended.0;
-          deads = deads;
-          dones = c.1;
-          dead_names = names;
-          done_names = dones.names;
           before_deads = stays;
-          before_dones = later;
-          lists_dead = subst (λ (p : Plan). Listed (AllowsFor role plan) deads c.1 (joined p.queue (codes "dead")) names) of_plan lists;
-          lists_done = subst (λ (p : Plan). Listed (AllowsFor role plan) c.1 new (joined p.queue (codes "done")) dones.names) of_plan dones.lists;
+          before_dones = after;
           ended = dones.ended.1;
           lasts = lasts;
           all = all;

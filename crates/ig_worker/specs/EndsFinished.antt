@@ -8,6 +8,7 @@ use Rattle.std.proofs.lemmas.Option.{none-some, same_Some}
 use Rattle.std.proofs.lemmas.Slice.Eq.{bytes_eq-Decides}
 use Rattle.ig_defs.specs.Log.{Log, files_of}
 use Rattle.ig_defs.specs.QueueNames.{task_file, task_fits}
+use Rattle.ig_defs.specs.TurnLaws.{files_then, grew_in, prefix_of}
 use Rattle.ig_record.specs.declared.stage.Stage.{Stage}
 use Rattle.ig_record.specs.Stage.{task_count}
 use Rattle.ig_rule.specs.Facts.{Facts}
@@ -23,13 +24,13 @@ use Rattle.ig_task.specs.Facts.{facts_of, stage_reader}
 use Rattle.ig_task.specs.Kinds.{kinds}
 use Rattle.ig_worker.specs.declared.plan.Plan.{Plan}
 use Rattle.ig_worker.specs.AtEnd.{Ending}
-use Rattle.ig_worker.specs.EndsLasts.{done_once, lasts_went}
+use Rattle.ig_worker.specs.EndsLasts.{done_once, lasts_later}
 use Rattle.ig_worker.specs.KeepsListing.{known_facts}
 use Rattle.ig_worker.specs.KeepsLists.{first_in, later_in}
 use Rattle.ig_worker.specs.Moves.{Move}
 use Rattle.ig_worker.specs.Places.{State}
 use Rattle.ig_worker.specs.Stages.{Known, all_unlisted, is_listed, one_unless, stage_in, unlisted}
-use Rattle.ig_worker.specs.Standing.{AllowsFor, IsKnown, IsRecorded, Lasts, Stays}
+use Rattle.ig_worker.specs.Standing.{IsKnown, IsRecorded, Lasts, Stays}
 
 -- ---- none is unlisted
 last_or_before : (k n : ℕ) → k < suc n → (k < n) ⊎ (k ≡ n)
@@ -97,10 +98,10 @@ pub noted_is : (plan : Plan) (now : ℕ) (s : State) (log : Log) (n : ℕ) (t : 
 noted_is plan now s log n t known stays is = noted_by plan now s log n t (stage_in s.notes.known n) refl known stays is
 
 -- ---- from the listing of the done tasks
-module _ (role : Role) (plan : Plan) (mid : Log) (ms : List Move) (next : State) (new : Log) (e : Ending role plan mid ms next new) where
+module _ (role : Role) (plan : Plan) (old mid : Log) (ms : List Move) (next : State) (new whole : Log) (e : Ending role plan old mid ms next new whole) where
   -- the log lasts while the dead letters are listed
   dones_last : Lasts plan.queue (files_of e.deads) (files_of e.dones)
-  dones_last = lasts_went (AllowsFor role plan) plan.queue e.deads e.dones _ e.lists_dead.acted.went e.before_deads.legal e.before_dones.legal
+  dones_last = lasts_later plan.queue e.deads e.dones (prefix_of (grew_in e.lists_dead)) e.before_deads.legal e.before_dones.legal
 
   -- a stage that was recorded at first is so when the done tasks are listed
   pub recorded_then : (n : ℕ) (t : Facts) → IsRecorded plan mid n t → IsRecorded plan e.dones n t
@@ -113,8 +114,8 @@ module _ (role : Role) (plan : Plan) (mid : Log) (ms : List Move) (next : State)
       let l = e.lists_done in
       let sound = legal_sound stage_reader kinds q e.dones e.before_dones.legal in
       let fit = recorded_fits plan e.dones e.before_dones.legal n k t is below in
-      let there = done_once role q (files_of e.dones) l.acted.others l.acted.by sound (task_id n k) fit (l.names.only (task_file (task_id n k)) among) in
-      subst (λ files. IsSome (queue_of q files (Done (task_id n k)))) (sym l.acted.files) there
+      let there = done_once role q (files_of e.dones) e.done_others l.by sound (task_id n k) fit (l.names.only (task_file (task_id n k)) among) in
+      subst (λ files. IsSome (queue_of q files (Done (task_id n k)))) (sym (files_then (grew_in l))) there
 
   pub all_done : all_unlisted e.done_names e.notes.known ≡ 0 → (n : ℕ) (t : Facts) → IsRecorded plan mid n t → Finished (queue_of plan.queue (files_of new)) n t
   all_done none n t is k below =

@@ -8,8 +8,9 @@ use Rattle.ig_defs.specs.declared.step.Step.{Step}
 use Rattle.ig_defs.specs.Files.{Files, file_at}
 use Rattle.ig_defs.specs.Log.{Log, AreAllowed, ByOthers, after, files_of, replay}
 use Rattle.ig_defs.specs.Names.{Stands, StandsOnce, StandsThroughout}
-use Rattle.ig_defs.specs.Own.{Moment}
 use Rattle.ig_defs.specs.QueueNames.{stage_file, task_file, task_fits}
+use Rattle.ig_defs.specs.TurnLaws.{files_later}
+use Rattle.ig_defs.specs.Turns.{IsPrefix}
 use Rattle.ig_meaning.specs.QueueMaking.{stages_dir}
 use Rattle.ig_queue.specs.FilesAt.{done_path_is}
 use Rattle.ig_rule.specs.Beside.{others_allowed}
@@ -24,8 +25,6 @@ use Rattle.ig_rule.specs.Rule.{Allowed}
 use Rattle.ig_rule.specs.Sound.{AreAllowedSteps, Legal, Sound}
 use Rattle.ig_rule.specs.SoundKept.{sound_kept}
 use Rattle.ig_rule.specs.Stages.{stages_in}
-use Rattle.ig_rule.specs.Went.{Went}
-use Rattle.ig_rule.specs.WentOn.{files_went}
 use Rattle.ig_task.specs.Facts.{stage_reader}
 use Rattle.ig_task.specs.Kinds.{kinds}
 use Rattle.ig_worker.specs.KeepsListing.{record_stands}
@@ -54,12 +53,12 @@ later_allowed allows files [] ys h = h
 later_allowed allows files (x ∷ xs) ys h = later_allowed allows (after files x.act) xs ys h.1
 
 -- Both last while a legal log grows.
-pub lasts_went : (allows : Bool → Files → Act → Type 0) (q : List ℕ) (old new : Log) (ms : List Moment) → Went allows old new ms → Legal stage_reader q old → Legal stage_reader q new → Lasts q (files_of old) (files_of new)
-lasts_went allows q old new ms went legal grown =
-    let allowed : AreAllowedSteps stage_reader q old.opening (old.steps ++ went.steps)
-    = subst (λ steps. AreAllowedSteps stage_reader q old.opening steps) went.grown (subst (λ files. AreAllowedSteps stage_reader q files new.steps) went.opening grown.steps) in
-    subst (Lasts q (files_of old)) (sym (files_went allows old new ms went))
-    (lasts_steps q (files_of old) went.steps (legal_sound stage_reader kinds q old legal) (later_allowed (λ mine given a. Allowed stage_reader q given a) old.opening old.steps went.steps allowed))
+pub lasts_later : (q : List ℕ) (old new : Log) → IsPrefix old new → Legal stage_reader q old → Legal stage_reader q new → Lasts q (files_of old) (files_of new)
+lasts_later q old new p legal grown =
+    let allowed : AreAllowedSteps stage_reader q old.opening (old.steps ++ p.later)
+    = subst (λ steps. AreAllowedSteps stage_reader q old.opening steps) p.grown (subst (λ files. AreAllowedSteps stage_reader q files new.steps) p.opening grown.steps) in
+    subst (Lasts q (files_of old)) (sym (files_later p))
+    (lasts_steps q (files_of old) p.later (legal_sound stage_reader kinds q old legal) (later_allowed (λ mine given a. Allowed stage_reader q given a) old.opening old.steps p.later allowed))
 
 -- ---- while others take steps
 module _ (role : Role) (q : List ℕ) where

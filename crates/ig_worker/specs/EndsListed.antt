@@ -25,7 +25,8 @@ use Rattle.ig_rule.specs.Sound.{Sound}
 use Rattle.ig_rule.specs.SoundFiles.{none_there}
 use Rattle.ig_rule.specs.SoundKept.{sound_kept}
 use Rattle.ig_rule.specs.Stages.{stages_in}
-use Rattle.ig_rule.specs.Went.{Listed}
+use Rattle.ig_defs.specs.Turns.{Listed}
+use Rattle.ig_defs.specs.TurnLaws.{files_then}
 use Rattle.ig_task.specs.Facts.{stage_reader}
 use Rattle.ig_task.specs.Kinds.{kinds}
 use Rattle.ig_task.specs.Lists.{first_of-from}
@@ -156,7 +157,7 @@ pub listed_recorded : (role : Role) (q : List ℕ) (known : Known) (given : List
     → Listed (Allows stage_reader role (Some q)) old new (stages_dir q) given → (n : ℕ) → Contains (unknown_listed known given) n → HasStage q (files_of new) n
 listed_recorded role q known given old new sound l n among =
     let h = was_listed known given n among in
-    subst (λ files. HasStage q files n) (sym l.acted.files)
+    subst (λ files. HasStage q files n) (sym (files_then l.acted))
     (told_once role q (stages_dir q) (stage_file n) n (λ files now_sound stands. record_tells q files now_sound n h.fits stands) (files_of old) l.acted.others l.acted.by sound
     (l.names.only (stage_file n) h.among))
 
@@ -167,6 +168,6 @@ queued_recorded role q known given now names old new sound are l n among =
     let h = stage_of_name known None names n among in
     let name = h.name in
     let listed = All-contains (IsCandidate given now) names name are.only h.among in
-    subst (λ k. HasStage q (files_of new) k) h.is (subst (λ files. HasStage q files name.stage) (sym l.acted.files)
+    subst (λ k. HasStage q (files_of new) k) h.is (subst (λ files. HasStage q files name.stage) (sym (files_then l.acted))
     (told_once role q (joined q (codes "queue")) (queue_file name) name.stage (λ files now_sound stands. name_tells q files now_sound name listed.fits stands) (files_of old) l.acted.others l.acted.by sound
     (l.names.only (queue_file name) listed.listed)))

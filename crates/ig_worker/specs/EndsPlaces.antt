@@ -70,8 +70,8 @@ same_plan role from to s old new m before small stays called =
     let fit = stays.place.fit in
     let kept = move_keeps role from to s old new m fit called stays.legal stays.known in
     let sound = legal_sound stage_reader kinds s.notes.plan.queue old stays.legal in
-    let now = replay (files_of old) called.acted.others in
-    let known : Knows s now = others_keep_known stage_reader kinds role s.notes.plan.queue (files_of old) called.acted.others (memory_of s) called.acted.by sound stays.known in
+    let now = replay (files_of old) called.answered.acted.others in
+    let known : Knows s now = others_keep_known stage_reader kinds role s.notes.plan.queue (files_of old) called.answered.acted.others (memory_of s) called.answered.acted.by sound stays.known in
     record {
       place = leads_fit from to s.notes fit.notes stays.place.later before small s.phase m fit.phase (made_by s.notes now s.phase fit.notes fit.phase known) called.leads;
       legal = kept.legal;

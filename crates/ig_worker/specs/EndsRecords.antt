@@ -7,6 +7,7 @@ use Rattle.ig_space.specs.declared.task_id.TaskId.{TaskId}
 use Rattle.ig_defs.specs.declared.queue_name.QueueName.{QueueName}
 use Rattle.ig_defs.specs.Files.{Files, file_at}
 use Rattle.ig_defs.specs.Log.{Log, after, files_of, replay}
+use Rattle.ig_defs.specs.TurnLaws.{files_then}
 use Rattle.ig_cutout.specs.declared.types.Input.{Input}
 use Rattle.ig_cutout.specs.declared.types.Output.{Output}
 use Rattle.ig_meaning.specs.QueueMaking.{record_path, stages_dir}
@@ -30,7 +31,7 @@ use Rattle.ig_worker.specs.declared.phase.Phase.TheVariants.{Starting, Learning,
 use Rattle.ig_worker.specs.declared.phase.Then.{Then}
 use Rattle.ig_worker.specs.declared.phase.Then.TheVariants.{Ask, Try, Count}
 use Rattle.ig_worker.specs.declared.plan.Plan.{Plan}
-use Rattle.ig_worker.specs.Calls.{Takes}
+use Rattle.ig_defs.specs.Answers.{Takes}
 use Rattle.ig_worker.specs.Course.{Course, fresh}
 use Rattle.ig_worker.specs.EndsCourse.{course_later}
 use Rattle.ig_worker.specs.EndsEnding.{listed_by}
@@ -184,16 +185,16 @@ module _ (role : Role) (from to : ℕ) (notes : Notes) (old new : Log) (sound : 
   reads_record [] goal c h leads = absurd leads
   reads_record (n ∷ unread) goal c h leads =
       let q = notes.plan.queue in
-      let now = replay (files_of old) c.acted.others in
-      let takes = subst (λ (v : Move). Takes (files_of old) c.acted.others v.call v.answer c.act) leads.1 c.takes in
-      let lasts = lasts_others role q (files_of old) c.acted.others c.acted.by sound in
+      let now = replay (files_of old) c.answered.acted.others in
+      let takes = subst (λ (v : Move). Takes (files_of old) c.answered.acted.others v.call v.answer c.answered.act) leads.1 c.answered.takes in
+      let lasts = lasts_others role q (files_of old) c.answered.acted.others c.answered.acted.by sound in
       let still : (k : ℕ) → Contains (n ∷ unread) k → HasStage q now k = λ k among. let there = h.recorded k among in (there.0, lasts.stages k there.0 there.1) in
       let first = still n (first_in n unread) in
       let r = record_of q now n first.0 first.1 in
       let found : leads.0 ≡ Some r.text = takes.1 ∙ r.stands_there in
       let next : learnt notes n unread goal leads.0 ≡ learnt_by notes n unread goal (Some r.stage) = ap (learnt notes n unread goal) found ∙ ap (learnt_by notes n unread goal) r.reads in
       let place = learning (with_stage n r.stage notes.known) unread goal in
-      let same : files_of new ≡ now = c.acted.files ∙ ap (after now) takes.0 in
+      let same : files_of new ≡ now = files_then c.answered.acted ∙ ap (after now) takes.0 in
       subst (λ (v : Move). Goes v.next.phase) (sym leads.1) (subst (λ (s : State). Goes s.phase) (sym next) (subst (λ files. IsReadable q files place) (sym same)
       (learning_readable q now (with_stage n r.stage notes.known) unread goal (λ k among. still k (later_in n unread k among)))))
 

@@ -5,13 +5,14 @@ use Rattle.ig_space.specs.Path.{joined}
 use Rattle.ig_defs.specs.declared.queue_name.QueueName.{QueueName}
 use Rattle.ig_defs.specs.Log.{Log, files_of}
 use Rattle.ig_defs.specs.QueueNames.{queue_file}
+use Rattle.ig_defs.specs.TurnLaws.{listed_in, prefix_then}
+use Rattle.ig_defs.specs.Turns.{IsPrefix, Listed}
 use Rattle.ig_record.specs.declared.stage.Stage.{Stage}
 use Rattle.ig_record.specs.Reading.{record_in}
 use Rattle.ig_rule.specs.Facts.{Facts}
 use Rattle.ig_rule.specs.Known.{KeptStage}
 use Rattle.ig_rule.specs.declared.role.Role.{Role}
 use Rattle.ig_rule.specs.Stages.{Clear, stages_in}
-use Rattle.ig_rule.specs.Went.{Listed}
 use Rattle.ig_task.specs.Facts.{stage_reader}
 use Rattle.ig_worker.specs.declared.notes.Notes.{Notes}
 use Rattle.ig_worker.specs.declared.phase.Phase.TheVariants.{Asking, Closing, Learning}
@@ -20,7 +21,7 @@ use Rattle.ig_worker.specs.declared.plan.Plan.{Plan}
 use Rattle.ig_worker.specs.AtEnd.{NoneOpen}
 use Rattle.ig_worker.specs.Course.{Course}
 use Rattle.ig_worker.specs.EndsClosing.{learnt_all_known, learnt_more}
-use Rattle.ig_worker.specs.EndsCourse.{all_first}
+use Rattle.ig_worker.specs.EndsCourse.{all_first, course_prefix}
 use Rattle.ig_worker.specs.EndsEnding.{IsLearnt, listed_by}
 use Rattle.ig_worker.specs.EndsFinished.{noted_is}
 use Rattle.ig_worker.specs.EndsOpen.{closed_not_clear, named_or_known, none_open}
@@ -84,25 +85,27 @@ module _ (role : Role) (plan : Plan) (to : ℕ) (place : State) (mid : Log) (clo
 
 -- ---- the listing
 -- What the last listing of the queue says at the close.
-pub round_ends : (role : Role) (plan : Plan) (from : ℕ) (s : State) (queues : Log) (m : Move) (ms : List Move) (to : ℕ) (place : State) (mid : Log) → s.phase ≡ Asking → s.notes.plan ≡ plan → place.phase ≡ Closing
-    → AreAll is_round m.next ms → Course (AllowsFor role plan) from s queues (m ∷ ms) to place mid → Stays plan to place mid → NoneOpen role plan from queues mid
-round_ends role plan from s queues m ms to place mid asking of_plan closing round c stays =
+pub round_ends : (role : Role) (plan : Plan) (from : ℕ) (s : State) (first queues : Log) (m : Move) (ms : List Move) (to : ℕ) (place : State) (mid whole : Log) → s.phase ≡ Asking → s.notes.plan ≡ plan → place.phase ≡ Closing
+    → AreAll is_round m.next ms → Course (AllowsFor role plan) from s queues (m ∷ ms) to place mid → Stays plan to place mid → IsPrefix first queues → IsPrefix mid whole
+    → NoneOpen role plan m.next.notes.at first queues mid whole
+round_ends role plan from s first queues m ms to place mid whole asking of_plan closing round c stays began ended =
     let q = plan.queue in
+    let allows = AllowsFor role plan in
     let leads : Leads from c.0 s.notes Asking m = subst (λ phase. Leads from c.0 s.notes phase m) asking c.3.leads in
     let next = stands (asked s.notes leads.now) (learning s.notes.known (unknown_named s.notes.known leads.names) (Try leads.names)) in
     let there : m.next ≡ next = ap (λ (v : Move). v.next) leads.is in
-    let lists : Listed (AllowsFor role plan) queues c.1 (joined q (codes "queue")) leads.given
-    = subst (λ (p : Plan). Listed (AllowsFor role plan) queues c.1 (joined p.queue (codes "queue")) leads.given) of_plan
-    (listed_by (AllowsFor role plan) from c.0 s queues c.1 m (joined s.notes.plan.queue (codes "queue")) leads.given next [] leads.is c.3) in
+    let at : m.next.notes.at ≡ leads.now = ap (λ (v : State). v.notes.at) there in
+    let lists : Listed allows queues c.1 (joined q (codes "queue")) leads.given
+    = subst (λ (p : Plan). Listed allows queues c.1 (joined p.queue (codes "queue")) leads.given) of_plan
+    (listed_by allows from c.0 s queues c.1 m (joined s.notes.plan.queue (codes "queue")) leads.given next [] leads.is c.3) in
+    let later : IsPrefix c.1 mid = course_prefix allows c.0 m.next c.1 ms to place mid c.4 in
     let closed = learns role plan to place mid closing leads.names ms c.0 (asked s.notes leads.now) (unknown_named s.notes.known leads.names) c.1
-    (named_or_known s.notes.known leads.names) (subst (λ t. AreAll is_round t ms) there round) (subst (λ t. Course (AllowsFor role plan) c.0 t c.1 ms to place mid) there c.4) in
+    (named_or_known s.notes.known leads.names) (subst (λ t. AreAll is_round t ms) there round) (subst (λ t. Course allows c.0 t c.1 ms to place mid) there c.4) in
     record {
-      listed = c.1;
-      names = leads.given;
-      lists = lists;
+      listing = record { to = c.1; names = leads.given; others = lists.acted.others; is = listed_in began lists (prefix_then later ended) };
+      later = later;
       none = λ name t fits due stood is below clear.
-          let least = leads.after in
-          let among = leads.are.each name (record { fits = fits; listed = lists.names.each (queue_file name) stood; due = omega (arith, due, least) }) in
+          let among = leads.are.each name (record { fits = fits; listed = lists.names.each (queue_file name) stood; due = omega (arith, due, at) }) in
           let noted = noted_is plan to place mid name.stage t (closed.all name among) stays is in
           let P = λ (p : Plan). (k : KeptStage) → Contains (map kept_of place.notes.known) k → stages_in stage_reader p.queue (files_of mid) k.number ≡ Some k.stage in
           closed_not_clear (stages_in stage_reader q (files_of mid)) place.notes.known (subst P stays.place.of_plan stays.known.stages) name noted.stage noted.is

@@ -22,7 +22,7 @@ use Rattle.ig_rule.specs.Stages.{stages_in}
 use Rattle.ig_task.specs.Facts.{facts_of, stage_reader}
 use Rattle.ig_task.specs.Kinds.{kinds}
 use Rattle.ig_worker.specs.declared.plan.Plan.{Plan}
-use Rattle.ig_worker.specs.AtEnd.{AreNotDone, Ending, IsNotDone}
+use Rattle.ig_worker.specs.AtEnd.{AreNotDone, Ending, IsNotDone, NoneIsDead, dead_dir}
 use Rattle.ig_worker.specs.EndsLasts.{lasts_others}
 use Rattle.ig_worker.specs.EndsLeft.{all_left, different-all_left, left_is, length-all_left}
 use Rattle.ig_worker.specs.EndsNames.{among_listed, name_in, shown_from, shown_is}
@@ -58,7 +58,7 @@ none_by None no_way = refl
 none_by (Some bytes) no_way = absurd (no_way refl)
 
 -- ---- where no dead letter was listed
-module _ (role : Role) (plan : Plan) (mid : Log) (ms : List Move) (next : State) (new : Log) (e : Ending role plan mid ms next new) where
+module _ (role : Role) (plan : Plan) (old mid : Log) (ms : List Move) (next : State) (new whole : Log) (e : Ending role plan old mid ms next new whole) where
   limits : HasLimits plan
   limits = subst HasLimits e.before_dones.place.of_plan e.before_dones.place.fit.notes.plan
 
@@ -74,7 +74,7 @@ module _ (role : Role) (plan : Plan) (mid : Log) (ms : List Move) (next : State)
         is = subst (λ (p : Plan). stages_in stage_reader p.queue (files_of e.dones) id.stage ≡ Some (facts_of id.stage h.stage)) e.before_dones.place.of_plan recorded;
         below = h.below;
         not_done = none_by (queue_of q (files_of e.dones) (Done id)) (λ there.
-            let stood = done_throughout role q limits.path limits.short (files_of e.dones) l.acted.others l.acted.by sound id there in
+            let stood = done_throughout role q limits.path limits.short (files_of e.dones) e.done_others l.by sound id there in
             true≢false (sym (among_listed e.done_names (task_file id) (l.names.each (task_file id) stood)) ∙ h.unlisted));
       }
 
@@ -86,9 +86,13 @@ module _ (role : Role) (plan : Plan) (mid : Log) (ms : List Move) (next : State)
     each = left_not_done;
   }
 
-  pub no_dead_stood : tasks_listed e.dead_names ≡ [] → (id : TaskId) → task_fits id ≡ true → StandsThroughout (files_of e.deads) e.lists_dead.acted.others (joined plan.queue (codes "dead")) (task_file id) → ⊥
-  no_dead_stood none id fit stood = none_in id (subst (λ ids. Contains ids id) none (shown_is e.dead_names id fit (e.lists_dead.names.each (task_file id) stood)))
+  -- each dead letter that stood all through the listing is told,
+  pub all_told : (id : TaskId) → task_fits id ≡ true → StandsThroughout (files_of e.deads) e.dead_others (dead_dir plan) (task_file id) → Contains (tasks_listed e.dead_names) id
+  all_told id fit stood = shown_is e.dead_names id fit (e.lists_dead.names.each (task_file id) stood)
 
-  -- each dead letter that is told stood
-  pub dead_stood : (id : TaskId) → Contains (tasks_listed e.dead_names) id → StandsOnce (files_of e.deads) e.lists_dead.acted.others (joined plan.queue (codes "dead")) (task_file id)
+  pub no_dead_stood : tasks_listed e.dead_names ≡ [] → NoneIsDead plan e.deads e.dead_others
+  no_dead_stood none id fit stood = none_in id (subst (λ ids. Contains ids id) none (all_told id fit stood))
+
+  -- and each that is told stood
+  pub dead_stood : (id : TaskId) → Contains (tasks_listed e.dead_names) id → StandsOnce (files_of e.deads) e.dead_others (dead_dir plan) (task_file id)
   dead_stood id among = e.lists_dead.names.only (task_file id) (shown_from e.dead_names id among).given

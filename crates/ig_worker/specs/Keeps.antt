@@ -11,7 +11,8 @@ use Rattle.ig_rule.specs.Rule.{Allowed}
 use Rattle.ig_rule.specs.declared.role.Role.{Role}
 use Rattle.ig_rule.specs.Sound.{Legal}
 use Rattle.ig_rule.specs.Stages.{stages_in}
-use Rattle.ig_rule.specs.Went.{Idled}
+use Rattle.ig_defs.specs.Turns.{Idled}
+use Rattle.ig_defs.specs.TurnLaws.{files_then}
 use Rattle.ig_rule.specs.WentOn.{acted_legal, idled_legal}
 use Rattle.ig_task.specs.Facts.{stage_reader}
 use Rattle.ig_task.specs.Kinds.{kinds}
@@ -38,16 +39,16 @@ pub record Keeps (s next : State) (new : Log) : Type 0 where
 
 -- In a legal log, whose files a worker knows, its move is allowed at its moment, and carries what it knows on.
 move_carried : (role : Role) (from to : ℕ) (s : State) (old new : Log) (m : Move) → IsFit s → (called : Called (Allows stage_reader role (Some s.notes.plan.queue)) from to s old new m)
-    → Legal stage_reader s.notes.plan.queue old → Knows s (files_of old) → Carries s.notes.plan.queue (replay (files_of old) called.acted.others) called.act m.next
+    → Legal stage_reader s.notes.plan.queue old → Knows s (files_of old) → Carries s.notes.plan.queue (replay (files_of old) called.answered.acted.others) called.answered.act m.next
 move_carried role from to s old new m fit called legal known =
     let q = s.notes.plan.queue in
     let sound = legal_sound stage_reader kinds q old legal in
-    let beside = others_keep stage_reader kinds role q (files_of old) called.acted.others (memory_of s) called.acted.by (record { sound = sound; known = known }) in
-    move_carries role from to s.notes (files_of old) called.acted.others called.acted.by sound beside.sound fit.notes called.act m s.phase fit.phase beside.known called.leads called.takes
+    let beside = others_keep stage_reader kinds role q (files_of old) called.answered.acted.others (memory_of s) called.answered.acted.by (record { sound = sound; known = known }) in
+    move_carries role from to s.notes (files_of old) called.answered.acted.others called.answered.acted.by sound beside.sound fit.notes called.answered.act m s.phase fit.phase beside.known called.leads called.answered.takes
 
 -- So its own act is allowed,
 pub move_allowed : (role : Role) (from to : ℕ) (s : State) (old new : Log) (m : Move) → IsFit s → (called : Called (Allows stage_reader role (Some s.notes.plan.queue)) from to s old new m)
-    → Legal stage_reader s.notes.plan.queue old → Knows s (files_of old) → Allowed stage_reader s.notes.plan.queue (replay (files_of old) called.acted.others) called.act
+    → Legal stage_reader s.notes.plan.queue old → Knows s (files_of old) → Allowed stage_reader s.notes.plan.queue (replay (files_of old) called.answered.acted.others) called.answered.act
 move_allowed role from to s old new m fit called legal known = (move_carried role from to s old new m fit called legal known).may
 
 -- and it leads to a legal log whose files it knows.
@@ -56,8 +57,8 @@ pub move_keeps : (role : Role) (from to : ℕ) (s : State) (old new : Log) (m : 
 move_keeps role from to s old new m fit called legal known =
     let carried = move_carried role from to s old new m fit called legal known in
     record {
-      legal = acted_legal stage_reader role s.notes.plan.queue old new called.act called.acted carried.may legal;
-      known = subst (λ files. Knows m.next files) (sym called.acted.files) carried.known;
+      legal = acted_legal stage_reader role s.notes.plan.queue old new called.answered.act called.answered.acted carried.may legal;
+      known = subst (λ files. Knows m.next files) (sym (files_then called.answered.acted)) carried.known;
     }
 
 -- Steps of others alone keep both.
@@ -69,7 +70,7 @@ idle_keeps role s old new idled legal known =
     let beside = others_keep stage_reader kinds role q (files_of old) idled.others (memory_of s) idled.by (record { sound = sound; known = known }) in
     record {
       legal = idled_legal stage_reader role q old new idled legal;
-      known = subst (λ files. Knows s files) (sym idled.files) beside.known;
+      known = subst (λ files. Knows s files) (sym (files_then idled)) beside.known;
     }
 
 -- A worker that has stopped at an error knows the same stages, and has no lease.

@@ -27,7 +27,7 @@ use Rattle.ig_task.specs.Facts.{facts_of, stage_reader}
 use Rattle.ig_task.specs.Kinds.{kinds}
 use Rattle.ig_worker.specs.declared.notes.Notes.{Notes}
 use Rattle.ig_worker.specs.declared.phase.Phase.TheVariants.{Finishing}
-use Rattle.ig_worker.specs.Calls.{Answer, Put, Takes, WasThere, act_if, Names, Found}
+use Rattle.ig_defs.specs.Answers.{Answer, Put, Takes, WasThere, act_if, Names, Found}
 use Rattle.ig_worker.specs.Fit.{HasText, IsFinishing}
 use Rattle.ig_worker.specs.KeepsFiles.{IsNextPath, file_of, finished-all, finished-more, made-first, made-later, next_path, next_path-among}
 use Rattle.ig_worker.specs.KeepsKnown.{Carries, all_known, carries, known_with, rested, try_rests}

@@ -25,7 +25,7 @@ use Rattle.ig_worker.specs.declared.phase.Phase.{Phase}
 use Rattle.ig_worker.specs.declared.phase.Phase.TheVariants.{Starting, Learning, Asking, Trying, Fetching, Running, Finishing, Closing, ListingDead, ListingDone, Telling, Over, Broken}
 use Rattle.ig_worker.specs.declared.phase.Then.{Then}
 use Rattle.ig_worker.specs.declared.phase.Then.TheVariants.{Ask, Try, Count}
-use Rattle.ig_worker.specs.Calls.{Takes, act_if}
+use Rattle.ig_defs.specs.Answers.{Takes, act_if}
 use Rattle.ig_worker.specs.Fit.{AreFitNotes, IsFetching, IsFinishing, IsFitPhase, IsOpen, IsRunning}
 use Rattle.ig_worker.specs.KeepsHanding.{done_carries, output_carries}
 use Rattle.ig_worker.specs.KeepsKnown.{Carries, KnowsAll, KnowsStages, all_known, known_learning, rested, try_rests}

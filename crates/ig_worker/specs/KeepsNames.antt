@@ -18,7 +18,7 @@ use Rattle.ig_queue.specs.Moves.{leased_name}
 use Rattle.ig_task.specs.Facts.{stage_reader}
 use Rattle.ig_worker.specs.declared.notes.Notes.{Notes}
 use Rattle.ig_worker.specs.declared.phase.Phase.TheVariants.{Trying}
-use Rattle.ig_worker.specs.Calls.{act_if}
+use Rattle.ig_defs.specs.Answers.{act_if}
 use Rattle.ig_worker.specs.Fit.{IsOpen}
 use Rattle.ig_worker.specs.KeepsKnown.{Carries, all_known, carries, rested, try_rests}
 use Rattle.ig_worker.specs.KeepsLeases.{leased_known}

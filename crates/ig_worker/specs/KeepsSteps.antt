@@ -5,7 +5,7 @@ use Rattle.ig_defs.specs.Log.{Log, files_of}
 use Rattle.ig_rule.specs.Roles.{Allows}
 use Rattle.ig_rule.specs.declared.role.Role.{Role}
 use Rattle.ig_rule.specs.Sound.{Legal}
-use Rattle.ig_rule.specs.Went.{Idled}
+use Rattle.ig_defs.specs.Turns.{Idled}
 use Rattle.ig_task.specs.Facts.{stage_reader}
 use Rattle.ig_worker.specs.declared.error.WorkerError.{WorkerError}
 use Rattle.ig_worker.specs.declared.error.WorkerError.TheVariants.{Absent, BadRecord, Failed, Memory}

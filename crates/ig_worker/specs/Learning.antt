@@ -6,11 +6,10 @@ use Rattle.ig_defs.specs.Log.{Log}
 use Rattle.ig_record.specs.declared.stage.Stage.{Stage}
 use Rattle.ig_record.specs.Reading.{record_in}
 use Rattle.ig_meaning.specs.QueueMaking.{record_path}
-use Rattle.ig_rule.specs.Went.{Idled}
+use Rattle.ig_defs.specs.Turns.{Idled}
 use Rattle.ig_worker.specs.declared.error.WorkerError.{WorkerError}
 use Rattle.ig_worker.specs.declared.error.WorkerError.TheVariants.{Absent, BadRecord, Memory}
-use Rattle.ig_worker.specs.Calls.{Answer, Found, Reads}
-use Rattle.ig_worker.specs.Led.{IsAnswered}
+use Rattle.ig_defs.specs.Answers.{Answer, Found, IsAnswered, Reads}
 
 -- the stage that the text of a record is, or that it is none
 abbrev pub GivesStage : List ℕ → ℕ → List ℕ → Result Stage WorkerError → Type 0

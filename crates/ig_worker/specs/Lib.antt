@@ -2,7 +2,6 @@ pub mod Errors
 pub mod Plans
 pub mod Stages
 pub mod Places
-pub mod Calls
 pub mod Moves
 pub mod Fit
 pub mod Knows

@@ -25,7 +25,7 @@ use Rattle.ig_worker.specs.declared.turn.Line.{Line}
 use Rattle.ig_worker.specs.declared.turn.Line.TheVariants as line
 use Rattle.ig_worker.specs.declared.turn.Why.{Why}
 use Rattle.ig_worker.specs.declared.turn.Why.TheVariants as why
-use Rattle.ig_worker.specs.Calls.{Call, Lists, Reads, Puts, Shifts, Removes, Answer, Names, Found, WasThere}
+use Rattle.ig_defs.specs.Answers.{Call, Lists, Reads, Puts, Shifts, Removes, Answer, Names, Found, WasThere}
 use Rattle.ig_worker.specs.Places.{State, stands, asked, tried_one, learning, learnt, next_try, leased_or_gone, fetched, counted}
 use Rattle.ig_worker.specs.Stages.{stage_in, tasks_listed, unknown_listed, unknown_named}
 

@@ -1,9 +1,10 @@
 -- What a step of a worker does.
-use Rattle.std.specs.Prelude.{◌≡◌, ◌⊎◌, ℕ, Bool, true, false, List, [], ◌∷◌, ◌++◌, Result, Ok, Err}
+use Rattle.std.specs.Prelude.{◌≡◌, ◌⊎◌, ℕ, Bool, true, false, List, [], ◌∷◌, Result, Ok, Err}
 use Rattle.ig_defs.specs.declared.step.Act.{Act}
 use Rattle.ig_defs.specs.Files.{Files}
-use Rattle.ig_defs.specs.Log.{Log, files_of, own}
-use Rattle.ig_rule.specs.Went.{Acted, Idled}
+use Rattle.ig_defs.specs.Log.{Log}
+use Rattle.ig_defs.specs.Answers.{IsAnswered}
+use Rattle.ig_defs.specs.Turns.{Idled}
 use Rattle.ig_worker.specs.declared.error.WorkerError.{WorkerError}
 use Rattle.ig_worker.specs.declared.error.WorkerError.TheVariants.{Failed, Memory}
 use Rattle.ig_worker.specs.declared.notes.Notes.{Notes}
@@ -14,17 +15,17 @@ use Rattle.ig_worker.specs.declared.turn.Line.{Line}
 use Rattle.ig_worker.specs.declared.turn.Line.TheVariants as line
 use Rattle.ig_worker.specs.declared.turn.Turn.{Turn}
 use Rattle.ig_worker.specs.declared.turn.Turn.TheVariants.{On, Said, Ended}
-use Rattle.ig_worker.specs.Calls.{Takes}
 use Rattle.ig_worker.specs.Moves.{Move, Leads}
 use Rattle.ig_worker.specs.Places.{State, stands}
 
+-- a move of this sort was made
+pub record Made (allows : Bool → Files → Act → Type 0) (old new : Log) (sort : Move → Type 0) (m : Move) : Type 0 where
+  pub answered : IsAnswered allows old new m.call m.answer
+  pub leads : sort m
+
 -- The log grew by steps of others and then by the own act of this move, which the worker's place allows.
-pub record Called (allows : Bool → Files → Act → Type 0) (from to : ℕ) (s : State) (old new : Log) (m : Move) : Type 0 where
-  pub act : Act
-  pub acted : Acted allows old new act
-  pub grown : new.steps ≡ old.steps ++ (acted.others ++ (own act ∷ []))
-  pub takes : Takes (files_of old) acted.others m.call m.answer act
-  pub leads : Leads from to s.notes s.phase m
+abbrev pub Called : (Bool → Files → Act → Type 0) → ℕ → ℕ → State → Log → Log → Move → Type 0
+Called allows from to s old new m = Made allows old new (Leads from to s.notes s.phase) m
 
 -- ---- answers
 abbrev pub turn_at : Phase → Result Turn WorkerError

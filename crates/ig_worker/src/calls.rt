@@ -3,8 +3,7 @@ ghost use Rattle.std.specs.Prelude.{◌≡◌, All, IfOk};
 ghost use Rattle.ig_defs.specs.Calls.{HasCause};
 ghost use Rattle.ig_defs.specs.Names.{IsNameIn};
 ghost use Rattle.ig_task.specs.Pipeline.{is_allowed};
-ghost use Rattle.ig_worker.specs.Calls.{Lists, Reads, Puts, Removes, Names as Listed, Found, WasThere};
-ghost use Rattle.ig_worker.specs.Led.{Answered, answer_by, put_answer};
+ghost use Rattle.ig_defs.specs.Answers.{answer_by, Answered, Found, Lists, Names as Listed, put_answer, Puts, Reads, Removes, WasThere};
 
 use ig_space::{Bytes, Names, Path};
 use ig_store::{Store, StoreError};

@@ -6,8 +6,7 @@ ghost use Rattle.ig_queue.specs.Moves.{leased_name};
 ghost use Rattle.ig_rule.specs.QueueFiles.{Queued, Dead, Done, path_of};
 ghost use Rattle.ig_task.specs.Pipeline.{is_allowed};
 ghost use Rattle.ig_worker.specs.Acting.{lease_answer};
-ghost use Rattle.ig_worker.specs.Calls.{Shifts, WasThere};
-ghost use Rattle.ig_worker.specs.Led.{Answered, answer_by};
+ghost use Rattle.ig_defs.specs.Answers.{answer_by, Answered, Shifts, WasThere};
 
 use ig_queue::{Closed, Lease, Path, QueueName, bury, complete, lease};
 use ig_store::{Store, StoreError};

@@ -4,9 +4,14 @@ use Rattle.ig_rule.specs.Rule.{seal_text}
 use Rattle.ig_rule.specs.Stages.{Sealed}
 use Rattle.ig_queue.specs.FilesAt.{stage_fit}
 use Rattle.ig_stage.proofs.OpenKept.{put_there}
-use Rattle.ig_stage.proofs.OpenLogs.{put_as, put_leaves, seal_stays_legal}
+use Rattle.ig_stage.proofs.OpenLogs.{put_as, put_does, put_leaves, seal_stays_legal}
 use Rattle.ig_stage.proofs.SomeSteps.{put_some, some_nothing}
 use Rattle.ig_stage.proofs.puts.put_seal.Goals as goal
+
+pub returns-clause-acts : goal.returns-clause-acts
+returns-clause-acts g c = λ tells.
+    put_does _ _ _ (path_of c.args.queue.now (Seal c.args.number)) seal_text c.put.result
+    (put_as _ _ _ _ _ (path_of c.args.queue.now (Seal c.args.number)) seal_text c.put.result c.in_ok-path.ensures refl (c.put.ensures.went tells))
 
 pub returns-clause-legal : goal.returns-clause-legal
 returns-clause-legal g c = λ tells s m has named.

@@ -1,5 +1,5 @@
 use Rattle.std.proofs.lemmas.Result.{err_from_is_err_and}
-use Rattle.ig_worker.specs.Calls.{Lists, Names}
+use Rattle.ig_defs.specs.Answers.{Lists, Names}
 use Rattle.ig_worker.specs.Moves.{ListsDead}
 use Rattle.ig_worker.proofs.Endings.{dead_listed, goes_to_letters, led_to_letters}
 use Rattle.ig_worker.proofs.Exits.{led_failed, led_forgotten}

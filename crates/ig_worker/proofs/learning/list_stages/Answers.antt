@@ -1,6 +1,6 @@
 use Rattle.std.proofs.Common.{refl}
 use Rattle.std.proofs.lemmas.Result.{err_from_is_err_and}
-use Rattle.ig_worker.specs.Calls.{Lists, Names}
+use Rattle.ig_defs.specs.Answers.{Lists, Names}
 use Rattle.ig_worker.specs.Moves.{ListsStages}
 use Rattle.ig_worker.proofs.Exits.{led_failed, led_forgotten}
 use Rattle.ig_worker.proofs.Listings.{goes_to_records, led_to_records, stages_listed}

@@ -1,6 +1,6 @@
 use Rattle.std.proofs.Common.{arith, refl}
 use Rattle.std.proofs.lemmas.Result.{err_from_is_err_and}
-use Rattle.ig_worker.specs.Calls.{Lists, Names}
+use Rattle.ig_defs.specs.Answers.{Lists, Names}
 use Rattle.ig_worker.specs.Moves.{ListsQueue}
 use Rattle.ig_worker.specs.Places.{asked}
 use Rattle.ig_worker.proofs.Exits.{led_failed, led_forgotten}
