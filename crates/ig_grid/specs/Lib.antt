@@ -1,0 +1,16 @@
+pub mod Sums
+pub mod BoxGraph
+pub mod Tiling
+pub mod Links
+pub mod Weights
+pub mod Laws
+pub mod SumLaws
+pub mod TilingLaws
+pub mod GraphLaws
+pub mod BoxLaws
+pub mod LabelLaws
+pub mod AxisLaws
+pub mod StepLaws
+pub mod OrderLaws
+pub mod GridLaws
+pub mod WeightLaws
