@@ -1,0 +1,2 @@
+mod UnionLaws
+mod TableLaws

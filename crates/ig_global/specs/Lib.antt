@@ -1,0 +1,3 @@
+pub mod EdgeGraph
+pub mod Unions
+pub mod Numbers

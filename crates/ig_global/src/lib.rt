@@ -1,0 +1,13 @@
+//! The parts of a whole volume, from the parts of its boxes: the classes of linked parts, and their numbers in the order of their
+//! first voxels.
+#![tactic(auto)]
+
+mod edges;
+mod numbering;
+mod totals;
+mod walking;
+
+pub use edges::{Edge, Edges, Table};
+pub use numbering::number;
+pub use totals::{TooManyParts, total};
+pub use walking::walk;
