@@ -1,2 +1,4 @@
 mod UnionLaws
 mod TableLaws
+mod NumberedLaws
+mod LinkLaws

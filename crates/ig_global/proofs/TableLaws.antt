@@ -1,13 +1,13 @@
 -- Laws on the least first values of classes, and on how many are below a bound.
-use Rattle.std.proofs.Common.{ℕ, zero, suc, ◌+◌, ◌-◌, ◌^◌, ◌<◌, ◌≤◌, Bool, true, false, ◌≡◌, cond, min, ◌&&◌, eqb, ltb, List, [], ◌∷◌, ◌++◌, length, get_or, set, replicate, refl, sym, ap, ◌∙◌, subst, ◌⊎◌, inl, inr, arith, length-set, get_or-set_same, get_or-set_other}
+use Rattle.std.proofs.Common.{ℕ, zero, suc, ◌+◌, ◌-◌, ◌^◌, ◌<◌, ◌≤◌, Bool, true, false, ◌≡◌, cond, min, ◌&&◌, eqb, ltb, List, [], ◌∷◌, ◌++◌, length, get_or, refl, sym, ap, ◌∙◌, ◌⊎◌, inl, inr, arith}
 use Rattle.std.specs.Prelude.{count_by}
-use Rattle.std.proofs.lemmas.Bool.{and_left, eqb-true, eq-eqb, ne_eqb, cases_eq, cases_Bool, cond-true, cond-false, ltb-true, false≢true}
-use Rattle.std.proofs.lemmas.List.{get_or-replicate, length-replicate}
+use Rattle.std.proofs.lemmas.Bool.{and_left, eq-eqb, ne_eqb, cases_eq, cond-true, cond-false, false≢true}
 use Rattle.std.proofs.lemmas.List.Sums.{sum_by-cons, sum_by_push}
 use Rattle.ig_graph.specs.Counts.{how_many}
 use Rattle.ig_graph.specs.CountLaws.{how_many-pass}
 use Rattle.ig_graph.specs.Numbers.{lowest, first_of_class, is_class_before, number_of}
-use Rattle.ig_global.specs.Numbers.{AreBelow, AreNumbers, AreDone, HaveLeast, HaveTallies, number_by}
+use Rattle.ig_global.proofs.NumberedLaws.{same-count}
+use Rattle.ig_global.specs.Numbers.{AreBelow, HaveLeast, HaveTallies, number_by}
 
 -- ---- the lowest value
 lowest_min : (test : ℕ → Bool) (value : ℕ → ℕ) (n other x : ℕ) → lowest test value n (min other x) ≡ min x (lowest test value n other)
@@ -35,62 +35,6 @@ lowest-from test value n other i l t le =
     let low = lowest_le test value n other i l t in
     let same : lowest test value n (value i) ≡ min (value i) (lowest test value n other) = ap (lowest test value n) e ∙ lowest_min test value n other (value i) in
     omega (arith, same, low)
-
--- ---- the table of least first values
-pub least-none : (classes firsts : List ℕ) (n : ℕ) → n ≡ length classes → HaveLeast classes firsts 0 (replicate n (2 ^ 64 - 1))
-least-none classes firsts n e = record {
-  size = length-replicate n (2 ^ 64 - 1) ∙ e;
-  each = λ c l. get_or-replicate n c (2 ^ 64 - 1) 0 (omega arith);
-}
-
-lowest_more : (test : ℕ → Bool) (value : ℕ → ℕ) (n other : ℕ) → test n ≡ true → lowest test value (suc n) other ≡ min (value n) (lowest test value n other)
-lowest_more test value n other e = cond-true (test n) (min (value n) (lowest test value n other)) (lowest test value n other) e
-
-lowest_same : (test : ℕ → Bool) (value : ℕ → ℕ) (n other : ℕ) → test n ≡ false → lowest test value (suc n) other ≡ lowest test value n other
-lowest_same test value n other e = cond-false (test n) (min (value n) (lowest test value n other)) (lowest test value n other) e
-
-module _ (classes firsts least : List ℕ) (n : ℕ) (below : AreBelow classes) (l : n < length classes) (is : HaveLeast classes firsts n least) where
-  abbrev in_class : ℕ → ℕ → Bool
-  in_class c b = eqb (get_or classes b 0) c
-
-  one : (test : ℕ → Bool) → lowest test (λ i. get_or firsts i 0) (n + 1) (2 ^ 64 - 1) ≡ lowest test (λ i. get_or firsts i 0) (suc n) (2 ^ 64 - 1)
-  one test = let e : n + 1 ≡ suc n = omega arith in ap (λ k. lowest test (λ i. get_or firsts i 0) k (2 ^ 64 - 1)) e
-
-  of_own : lowest (in_class (get_or classes n 0)) (λ i. get_or firsts i 0) (n + 1) (2 ^ 64 - 1)
-      ≡ min (get_or firsts n 0) (lowest (in_class (get_or classes n 0)) (λ i. get_or firsts i 0) n (2 ^ 64 - 1))
-  of_own =
-      one (in_class (get_or classes n 0))
-      ∙ lowest_more (in_class (get_or classes n 0)) (λ i. get_or firsts i 0) n (2 ^ 64 - 1) (eq-eqb (get_or classes n 0) (get_or classes n 0) refl)
-
-  of_other : (c : ℕ) → (get_or classes n 0 ≡ c → ⊥)
-      → lowest (in_class c) (λ i. get_or firsts i 0) (n + 1) (2 ^ 64 - 1) ≡ lowest (in_class c) (λ i. get_or firsts i 0) n (2 ^ 64 - 1)
-  of_other c o = one (in_class c) ∙ lowest_same (in_class c) (λ i. get_or firsts i 0) n (2 ^ 64 - 1) (ne_eqb (get_or classes n 0) c o)
-
-  pub least-more : get_or firsts n 0 < get_or least (get_or classes n 0) 0 → HaveLeast classes firsts (n + 1) (set least (get_or classes n 0) (get_or firsts n 0))
-  least-more less = record {
-    size = length-set least (get_or classes n 0) (get_or firsts n 0) ∙ is.size;
-    each = λ c lc. by_case c lc (cases_eq (get_or classes n 0) c);
-  } where
-    by_case : (c : ℕ) → c < length classes → (get_or classes n 0 ≡ c) ⊎ (get_or classes n 0 ≡ c → ⊥)
-        → get_or (set least (get_or classes n 0) (get_or firsts n 0)) c 0 ≡ lowest (in_class c) (λ i. get_or firsts i 0) (n + 1) (2 ^ 64 - 1)
-    by_case c lc (inl e) =
-        let room : get_or classes n 0 < length least = omega (arith, is.size, below n l) in
-        let was = is.each (get_or classes n 0) (below n l) in
-        let at_own : get_or (set least (get_or classes n 0) (get_or firsts n 0)) (get_or classes n 0) 0 ≡ lowest (in_class (get_or classes n 0)) (λ i. get_or firsts i 0) (n + 1) (2 ^ 64 - 1)
-        = omega (arith, get_or-set_same least (get_or classes n 0) (get_or firsts n 0) 0 room, of_own, was, less) in
-        subst (λ k. get_or (set least (get_or classes n 0) (get_or firsts n 0)) k 0 ≡ lowest (in_class k) (λ i. get_or firsts i 0) (n + 1) (2 ^ 64 - 1)) e at_own
-    by_case c lc (inr o) =
-        get_or-set_other least (get_or classes n 0) c (get_or firsts n 0) 0 (λ e. o (sym e)) ∙ is.each c lc ∙ sym (of_other c o)
-
-  pub least-same : get_or least (get_or classes n 0) 0 ≤ get_or firsts n 0 → HaveLeast classes firsts (n + 1) least
-  least-same most = record { size = is.size; each = λ c lc. by_case c lc (cases_eq (get_or classes n 0) c) } where
-    by_case : (c : ℕ) → c < length classes → (get_or classes n 0 ≡ c) ⊎ (get_or classes n 0 ≡ c → ⊥)
-        → get_or least c 0 ≡ lowest (in_class c) (λ i. get_or firsts i 0) (n + 1) (2 ^ 64 - 1)
-    by_case c lc (inl e) =
-        let was = is.each (get_or classes n 0) (below n l) in
-        let at_own : get_or least (get_or classes n 0) 0 ≡ lowest (in_class (get_or classes n 0)) (λ i. get_or firsts i 0) (n + 1) (2 ^ 64 - 1) = omega (arith, of_own, was, most) in
-        subst (λ k. get_or least k 0 ≡ lowest (in_class k) (λ i. get_or firsts i 0) (n + 1) (2 ^ 64 - 1)) e at_own
-    by_case c lc (inr o) = is.each c lc ∙ sym (of_other c o)
 
 -- ---- tallies
 -- where the first i pass and no other, i pass
@@ -132,13 +76,6 @@ tallies-same classes least ascending n is o bound =
     omega (arith, tally_step (is_tallied classes least bound) n (count_by (λ x. ltb x bound) ascending) false test (is bound))
 
 -- ---- numbers
-same_count : (s t : ℕ → Bool) (n : ℕ) → ((i : ℕ) → i < n → s i ≡ t i) → how_many s n ≡ how_many t n
-same_count s t zero h = refl
-same_count s t (suc n) h =
-    let less = same_count s t n (λ i l. h i (omega arith)) in
-    let here = h n (omega arith) in
-    λ i. cond (here i) (suc (less i)) (less i)
-
 module _ (classes firsts least : List ℕ) (below : AreBelow classes) (fit : (a : ℕ) → get_or firsts a 0 ≤ 2 ^ 64 - 1) (is : HaveLeast classes firsts (length classes) least) where
   least-first : (a : ℕ) → a < length classes
       → get_or least (get_or classes a 0) 0 ≡ first_of_class (λ b. get_or classes b 0) (λ b. get_or firsts b 0) (length classes) a
@@ -162,6 +99,6 @@ module _ (classes firsts least : List ℕ) (below : AreBelow classes) (fit : (a 
 
   pub number-is : (a : ℕ) → a < length classes → number_by classes least a ≡ number_of (λ b. get_or classes b 0) (λ b. get_or firsts b 0) (length classes) a
   number-is a l =
-      ap suc (same_count (λ b. eqb (get_or classes b 0) b && ltb (get_or least b 0) (get_or least (get_or classes a 0) 0))
+      ap suc (same-count (λ b. eqb (get_or classes b 0) b && ltb (get_or least b 0) (get_or least (get_or classes a 0) 0))
       (is_class_before (λ c. get_or classes c 0) (λ c. get_or firsts c 0) (length classes) (first_of_class (λ c. get_or classes c 0) (λ c. get_or firsts c 0) (length classes) a))
       (length classes) (λ b lb. same-test a b l lb))

@@ -1,10 +1,9 @@
 -- Sets that are put together for each edge are the classes of the edges' graph.
-use Rattle.std.proofs.Common.{ℕ, zero, suc, ◌+◌, ◌<◌, ◌≤◌, Bool, true, false, ◌≡◌, ◌&&◌, ◌||◌, eqb, List, [], ◌∷◌, length, get_or, take, fold, refl, sym, ap, ◌∙◌, subst, ◌⊎◌, inl, inr, arith}
-use Rattle.std.specs.List.{list_any}
+use Rattle.std.proofs.Common.{ℕ, zero, suc, ◌<◌, true, ◌≡◌, ◌&&◌, ◌||◌, eqb, List, [], ◌∷◌, length, get_or, refl, sym, ap, ◌∙◌, ◌⊎◌, inl, inr, arith}
 use Rattle.std.proofs.lemmas.Bool.{and_parts, and_from, or_cases, or_left, or_right, eqb-true, eq-eqb, lt-ltb, false≢true}
 use Rattle.std.proofs.lemmas.List.Folds.{list_any_at}
-use Rattle.ig_graph.specs.Graph.{Graph, is_in, steps, IsSymmetric, Joined, least}
-use Rattle.ig_graph.specs.PathLaws.{steps-adj, steps-from, steps-to, steps-is, in-below, Joined-step}
+use Rattle.ig_graph.specs.Graph.{Graph, steps, IsSymmetric, Joined}
+use Rattle.ig_graph.specs.PathLaws.{steps-adj, steps-is, Joined-step}
 use Rattle.ig_graph.specs.LeastLaws.{least-below}
 use Rattle.ig_graph.specs.Sets.{each_alone, united, AreJoined, AreClasses}
 use Rattle.ig_graph.specs.SetLaws.{alone-joined, length-united, united-joined, united-kept, united-same, joined-classes}

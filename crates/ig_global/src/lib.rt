@@ -3,11 +3,13 @@
 #![tactic(auto)]
 
 mod edges;
+mod laws;
 mod numbering;
 mod totals;
 mod walking;
 
 pub use edges::{Edge, Edges, Table};
+pub use laws::numbers_are_parts;
 pub use numbering::number;
 pub use totals::{TooManyParts, total};
 pub use walking::walk;

@@ -1,4 +1,4 @@
-use Rattle.std.proofs.Common.{ℕ, ◌+◌, List, sym, subst}
+use Rattle.std.proofs.Common.{◌+◌, sym, subst}
 use Rattle.ig_global.specs.Numbers.{HaveTallies}
 use Rattle.ig_global.proofs.TableLaws.{tallies-push}
 use Rattle.ig_global.proofs.numbering.add_first.Goals as goal

@@ -1,4 +1,4 @@
-use Rattle.std.proofs.Common.{ltb, arith, rules, sym, length}
+use Rattle.std.proofs.Common.{ltb, arith, rules, sym}
 use Rattle.std.proofs.lemmas.List.Sorted.{IsPartitionPoint-from_clause, IsPartitionedBy-ltb}
 use Rattle.ig_global.proofs.TableLaws.{count-split}
 use Rattle.ig_global.proofs.numbering.count_below.Goals as goal

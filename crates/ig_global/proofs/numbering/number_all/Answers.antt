@@ -1,4 +1,4 @@
-use Rattle.std.proofs.Common.{ℕ, ◌-◌, ◌^◌, ◌≡◌, ◌<◌, ◌≤◌, ◌∙◌, get_or, length, arith}
+use Rattle.std.proofs.Common.{ℕ, ◌-◌, ◌^◌, ◌≡◌, ◌≤◌, ◌∙◌, get_or, length, arith}
 use Rattle.ig_global.proofs.TableLaws.{number-is}
 use Rattle.ig_global.proofs.numbering.number_all.Goals as goal
 

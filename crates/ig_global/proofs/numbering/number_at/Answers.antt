@@ -1,4 +1,4 @@
-use Rattle.std.proofs.Common.{ℕ, ◌≡◌, ◌≤◌, ◌^◌, ◌&&◌, eqb, ltb, get_or, ◌∙◌, arith, length, rules}
+use Rattle.std.proofs.Common.{◌≡◌, ◌≤◌, ◌^◌, ◌&&◌, eqb, ltb, get_or, ◌∙◌, arith, length, rules}
 use Rattle.ig_graph.specs.Counts.{how_many}
 use Rattle.ig_graph.specs.CountLaws.{how_many-bound}
 use Rattle.ig_global.proofs.numbering.number_at.Goals as goal

@@ -1,4 +1,4 @@
-use Rattle.std.proofs.Common.{◌<◌, length, take, sym, ap, ◌∙◌, arith}
+use Rattle.std.proofs.Common.{length, take, ap, ◌∙◌, arith}
 use Rattle.ig_global.proofs.UnionLaws.{length-all_united}
 use Rattle.ig_global.proofs.walking.join_all.Goals as goal
 
