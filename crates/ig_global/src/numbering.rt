@@ -6,7 +6,8 @@ use crate::Table;
 use ig_space::Classes;
 use std::alloc::{AllocError, Global};
 
-/// The number of each node's class, counted from 1: in the order of the least first values of classes.
+/// The number of each node's class, counted from 1: one more than there are classes whose least first value is below its own.
+/// `classes` has each node's class, by a node that stands for it, and `firsts` each node's first value.
 pub fn number(alloc: Global, classes: &Classes, firsts: &[u64]) -> Result<Table, AllocError>
     requires firsts { length firsts.now ≡ length classes.now }
     requires classes { AreBelow classes.now }
@@ -17,7 +18,7 @@ pub fn number(alloc: Global, classes: &Classes, firsts: &[u64]) -> Result<Table,
     Ok(Table::from_vec(numbers))
 }
 
-/// The same for slices.
+/// The same for a slice of classes.
 fn number_all(alloc: Global, classes: &[u32], firsts: &[u64]) -> Result<Vec<u32>, AllocError>
     requires firsts { length firsts.now ≡ length classes.now }
     requires classes { AreBelow classes.now }

@@ -5,14 +5,14 @@ use thiserror::Error;
 /// At most so many parts have numbers.
 const MOST_PARTS: u64 = 1 << 24;
 
-/// There are more parts than can be numbered: so many.
+/// There are so many parts, which are more than can have numbers.
 #[derive(Clone, Copy, Debug, PartialEq, Eq, Error)]
 #[error("{count} parts, more than 16777216")]
 pub struct TooManyParts {
     pub count: u64,
 }
 
-/// How many parts there are, where each box has so many.
+/// How many parts the boxes have together, where `counts` has the number for each box. At most 2^24 can have numbers.
 pub fn total(counts: &[u32]) -> Result<u32, TooManyParts>
     requires few { length counts.now ≤ 1000000 }
     ensures sum { IfOk result (λ total. total ≡ sum counts.now) }

@@ -9,7 +9,7 @@ use ig_graph::DisjointSets;
 use ig_space::Classes;
 use std::alloc::{AllocError, Global};
 
-/// For each node the least node that edges lead to from it, taken either way.
+/// For each node below `nodes` the least node that a path along edges, taken either way, leads to from it.
 pub fn walk(alloc: Global, nodes: u32, edges: &Edges) -> Result<Classes, AllocError>
     requires few { nodes ≤ 2 ^ 24 }
     requires within { AreWithin nodes edges.now }

@@ -27,14 +27,14 @@ linked-on volume g y_axis k a l b h = or_right _ _ (or_left _ _ h)
 linked-on volume g z_axis k a l b h = or_right _ _ (or_right _ _ h)
 
 -- what a voxel that shows a link has
-record IsTouching (volume : ℕ → ℕ → ℕ → ℕ) (axis : Axis) (box other : Box3) (part beyond i : ℕ) : Type 0 where
-  last : along axis (voxel_at box i) + 1 ≡ along axis box.hi
-  some : label_of volume (voxel_at box i) ≢ 0
-  alike : label_of volume (voxel_at box i) ≡ label_of volume (up axis (voxel_at box i))
-  own : part_of (box_graph volume box) i ≡ part
-  others : part_of (box_graph volume other) (place_in other (up axis (voxel_at box i))) ≡ beyond
+pub record IsTouching (volume : ℕ → ℕ → ℕ → ℕ) (axis : Axis) (box other : Box3) (part beyond i : ℕ) : Type 0 where
+  pub last : along axis (voxel_at box i) + 1 ≡ along axis box.hi
+  pub some : label_of volume (voxel_at box i) ≢ 0
+  pub alike : label_of volume (voxel_at box i) ≡ label_of volume (up axis (voxel_at box i))
+  pub own : part_of (box_graph volume box) i ≡ part
+  pub others : part_of (box_graph volume other) (place_in other (up axis (voxel_at box i))) ≡ beyond
 
-touching-is : (volume : ℕ → ℕ → ℕ → ℕ) (axis : Axis) (box other : Box3) (part beyond i : ℕ) → is_touching volume axis box other part beyond i ≡ true
+pub touching-is : (volume : ℕ → ℕ → ℕ → ℕ) (axis : Axis) (box other : Box3) (part beyond i : ℕ) → is_touching volume axis box other part beyond i ≡ true
     → IsTouching volume axis box other part beyond i
 touching-is volume axis box other part beyond i h =
     let s = and_parts _ _ h in
@@ -49,7 +49,7 @@ touching-is volume axis box other part beyond i h =
       others = eqb-true (part_of (box_graph volume other) (place_in other (up axis (voxel_at box i)))) beyond v.1;
     }
 
-is-touching : (volume : ℕ → ℕ → ℕ → ℕ) (axis : Axis) (box other : Box3) (part beyond i : ℕ) → IsTouching volume axis box other part beyond i
+pub is-touching : (volume : ℕ → ℕ → ℕ → ℕ) (axis : Axis) (box other : Box3) (part beyond i : ℕ) → IsTouching volume axis box other part beyond i
     → is_touching volume axis box other part beyond i ≡ true
 is-touching volume axis box other part beyond i w =
     and_from _ _ (eq-eqb (along axis (voxel_at box i) + 1) (along axis box.hi) w.last)

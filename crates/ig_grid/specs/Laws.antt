@@ -1,5 +1,5 @@
 -- The laws of labelling and of counting box by box, for every volume and every task grid.
-use Rattle.std.specs.Prelude.{ℕ, ◌+◌, ◌≤◌, ◌<◌, Bool, true, ◌≡◌, ◌↔◌, List, map}
+use Rattle.std.specs.Prelude.{ℕ, length, slice_index, sum, ◌-◌, ◌+◌, ◌≤◌, ◌<◌, Bool, true, ◌≡◌, ◌↔◌, List, map}
 use Rattle.std.specs.List.{range_with_len}
 use Rattle.ig_space.specs.declared.point.Point.{Point}
 use Rattle.ig_space.specs.declared.point.Box3.{Box3}
@@ -13,9 +13,10 @@ use Rattle.ig_graph.specs.Numbers.{first_of_class, number_of}
 use Rattle.ig_graph.specs.Quotients.{IsQuotient, AreFirsts, Numbered}
 use Rattle.ig_label.specs.VoxelGraph.{label_at, voxel_graph}
 use Rattle.ig_grid.specs.Sums.{sum_below}
-use Rattle.ig_grid.specs.BoxGraph.{voxel_at, place_in, label_of, HaveParts}
+use Rattle.ig_grid.specs.BoxGraph.{voxel_at, place_in, label_of, box_graph, HaveParts}
 use Rattle.ig_grid.specs.Tiling.{Tiling, IsTiling, parts_in, part_count, node, cell_of_node, part_of_node, node_of, first_node, parts_graph}
-use Rattle.ig_grid.specs.Links.{Axis, along, up, is_upper, grid_tiling, whole_graph, links_graph, node_at, first_at}
+use Rattle.ig_grid.specs.Links.{Axis, along, up, is_upper, is_linked_along, grid_tiling, whole_graph, links_graph, node_at, first_at}
+use Rattle.ig_grid.specs.PlaneLinks.{IsPlaneLink}
 use Rattle.ig_grid.specs.Weights.{weight_in, weight_of_cells, passing_in, voxels_with}
 
 -- Voxels are joined in the whole exactly where a path along links leads from the part of the one to that of the other.
@@ -63,6 +64,11 @@ PartsOfNumbers = (t : Tiling) (a : ℕ) → a < part_count t
     → (cell_of_node t a < t.cells) × (part_of_node t a ≤ parts_in t (cell_of_node t a))
     × (node t (cell_of_node t a) (part_of_node t a) ≡ a)
 
+-- The numbers of parts that the cells have add up to the number of all parts.
+abbrev pub PartsAreCounted : Type 0
+PartsAreCounted = (t : Tiling) (counts : List ℕ) → length counts ≡ t.cells
+    → ((k : ℕ) → k < t.cells → slice_index counts k ≡ parts_in t k) → sum counts ≡ part_count t
+
 -- The voxel one above the last plane of a cell is in the first plane of the upper neighbour.
 abbrev pub AboveIsFirstPlane : Type 0
 AboveIsFirstPlane = (g : Grid) → IsGrid g
@@ -78,6 +84,41 @@ LabelledBoxHasParts = (volume : ℕ → ℕ → ℕ → ℕ) (b : Box3) (v : Vox
     → firsts ≡ those_below (is_root (voxel_graph v)) (count v.size)
     → values ≡ map (label_at v) firsts
     → HaveParts volume b local firsts values
+
+-- The lists of a box's parts tell each voxel's part, and of the part the label and the first voxel.
+abbrev pub ListsTellParts : Type 0
+ListsTellParts = (volume : ℕ → ℕ → ℕ → ℕ) (b : Box3) (local firsts values : List ℕ) → HaveParts volume b local firsts values
+    → (p : ℕ) → p < count (size_of b) → slice_index local p ≡ part_of (box_graph volume b) p
+
+abbrev pub ListsTellLabels : Type 0
+ListsTellLabels = (volume : ℕ → ℕ → ℕ → ℕ) (b : Box3) (local firsts values : List ℕ) → HaveParts volume b local firsts values
+    → (p : ℕ) → is_in (box_graph volume b) p ≡ true
+    → slice_index values (part_of (box_graph volume b) p - 1) ≡ label_of volume (voxel_at b p)
+
+abbrev pub ListsTellFirsts : Type 0
+ListsTellFirsts = (volume : ℕ → ℕ → ℕ → ℕ) (b : Box3) (local firsts values : List ℕ) → HaveParts volume b local firsts values
+    → (p : ℕ) → is_in (box_graph volume b) p ≡ true
+    → slice_index firsts (part_of (box_graph volume b) p - 1) ≡ least (box_graph volume b) p
+
+-- There are as many first voxels as the cell has parts, and they are the first voxels of these parts in the whole.
+abbrev pub ListsTellCounts : Type 0
+ListsTellCounts = (volume : ℕ → ℕ → ℕ → ℕ) (g : Grid) (k : ℕ) (local firsts values : List ℕ)
+    → HaveParts volume (cell g k) local firsts values → length firsts ≡ parts_in (grid_tiling volume g) k
+
+abbrev pub ListsTellFirstNodes : Type 0
+ListsTellFirstNodes = (volume : ℕ → ℕ → ℕ → ℕ) (g : Grid) (k part : ℕ) (local firsts values : List ℕ) → k < cell_count g
+    → HaveParts volume (cell g k) local firsts values → 1 ≤ part → part ≤ length firsts
+    → first_at volume g (node (grid_tiling volume g) k part)
+    ≡ place_in g.space (voxel_at (cell g k) (slice_index firsts (part - 1)))
+
+-- Parts are linked along an axis exactly where the lists of both cells show it in the planes that touch.
+abbrev pub ListsTellLinks : Type 0
+ListsTellLinks = (volume : ℕ → ℕ → ℕ → ℕ) (g : Grid) → IsGrid g
+    → (axis : Axis) (k l : ℕ) → k < cell_count g → is_upper g axis k l ≡ true
+    → (local firsts values others seconds labels : List ℕ)
+    → HaveParts volume (cell g k) local firsts values → HaveParts volume (cell g l) others seconds labels
+    → (a b : ℕ) → (is_linked_along volume g axis k a l b ≡ true)
+    ↔ IsPlaneLink axis (cell g k) (cell g l) local values others labels a b
 
 -- ---- sums
 -- The sum of a weight over all voxels is the sum over the cells of each cell's sum.

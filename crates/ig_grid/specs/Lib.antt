@@ -14,3 +14,5 @@ pub mod StepLaws
 pub mod OrderLaws
 pub mod GridLaws
 pub mod WeightLaws
+pub mod PlaneLinks
+pub mod ListLaws

@@ -6,5 +6,5 @@ mod laws;
 
 pub use laws::{
     cells_add_up, cells_keep_order, grids_are_tilings, labelled_boxes_have_parts, links_show_parts,
-    parts_are_numbered,
+    lists_tell_parts, parts_are_numbered,
 };
