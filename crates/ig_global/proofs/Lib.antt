@@ -2,3 +2,4 @@ mod UnionLaws
 mod TableLaws
 mod NumberedLaws
 mod LinkLaws
+mod ShownLaws

@@ -7,9 +7,11 @@ mod laws;
 mod numbering;
 mod totals;
 mod walking;
+mod whole;
 
 pub use edges::{Edge, Edges, Table};
 pub use laws::numbers_are_parts;
 pub use numbering::number;
 pub use totals::{TooManyParts, total};
 pub use walking::walk;
+pub use whole::number_parts;

@@ -1,9 +1,7 @@
-use Rattle.std.proofs.Common.{ℕ, subst}
-use Rattle.ig_graph.specs.Sets.{AreClasses}
 use Rattle.ig_grid.specs.GridLaws.{grid-tiling}
 use Rattle.ig_grid.specs.Links.{grid_tiling}
-use Rattle.ig_global.specs.EdgeGraph.{edge_graph}
 use Rattle.ig_global.proofs.LinkLaws.{edges-within, number-part, number-joined, number-first}
+use Rattle.ig_global.proofs.ShownLaws.{numbers-show}
 use Rattle.ig_global.proofs.laws.numbers_are_parts.Goals as goal
 
 pub returns-clause-within : goal.returns-clause-within
@@ -22,6 +20,4 @@ returns-clause-table c volume g grid edges classes firsts numbers are =
     number-first (grid_tiling volume g) (grid-tiling volume g grid) edges are.edges_are classes firsts numbers are.firsts_are are.classes_are are.numbers_are
 
 pub returns-clause-shown : goal.returns-clause-shown
-returns-clause-shown c firsts edges classes numbers classes_are numbers_are volume g grid firsts_are edges_are =
-    number-part (grid_tiling volume g) (grid-tiling volume g grid) edges edges_are classes firsts numbers firsts_are
-    (subst (λ (n : ℕ). AreClasses (edge_graph n edges) classes) firsts_are.size classes_are) numbers_are
+returns-clause-shown c = numbers-show
