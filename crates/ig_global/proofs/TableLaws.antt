@@ -55,12 +55,12 @@ abbrev is_tallied : List ℕ → List ℕ → ℕ → ℕ → Bool
 is_tallied classes least bound a = eqb (get_or classes a 0) a && ltb (get_or least a 0) bound
 
 tally_step : (test : ℕ → Bool) (n count : ℕ) (b : Bool) → test n ≡ b → count ≡ how_many test n → count + cond b 1 0 ≡ how_many test (n + 1)
-tally_step test n count true t e = omega (arith, e, how_many-pass test n t, ap (how_many test) (add_suc n)) where
-  add_suc : (n : ℕ) → n + 1 ≡ suc n
-  add_suc n = omega arith
-tally_step test n count false t e = omega (arith, e, cond-false (test n) (suc (how_many test n)) (how_many test n) t, ap (how_many test) (add_suc n)) where
-  add_suc : (n : ℕ) → n + 1 ≡ suc n
-  add_suc n = omega arith
+tally_step test n count true t e =
+    let one : n + 1 ≡ suc n = omega arith in
+    omega (arith, e, how_many-pass test n t, ap (how_many test) one)
+tally_step test n count false t e =
+    let one : n + 1 ≡ suc n = omega arith in
+    omega (arith, e, cond-false (test n) (suc (how_many test n)) (how_many test n) t, ap (how_many test) one)
 
 pub tallies-push : (classes least ascending : List ℕ) (n : ℕ) → HaveTallies classes least n ascending → get_or classes n 0 ≡ n
     → HaveTallies classes least (n + 1) (ascending ++ get_or least n 0 ∷ [])
@@ -69,11 +69,6 @@ tallies-push classes least ascending n is e bound =
     let test = ap (λ b. b && ltb value bound) (eq-eqb (get_or classes n 0) n e) in
     sum_by_push (λ x. cond (ltb x bound) 1 0) ascending value
     ∙ tally_step (is_tallied classes least bound) n (count_by (λ x. ltb x bound) ascending) (ltb value bound) test (is bound)
-
-pub tallies-same : (classes least ascending : List ℕ) (n : ℕ) → HaveTallies classes least n ascending → (get_or classes n 0 ≡ n → ⊥) → HaveTallies classes least (n + 1) ascending
-tallies-same classes least ascending n is o bound =
-    let test = and_left (eqb (get_or classes n 0) n) (ltb (get_or least n 0) bound) (ne_eqb (get_or classes n 0) n o) in
-    omega (arith, tally_step (is_tallied classes least bound) n (count_by (λ x. ltb x bound) ascending) false test (is bound))
 
 -- ---- numbers
 module _ (classes firsts least : List ℕ) (below : AreBelow classes) (fit : (a : ℕ) → get_or firsts a 0 ≤ 2 ^ 64 - 1) (is : HaveLeast classes firsts (length classes) least) where
