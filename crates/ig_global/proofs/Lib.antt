@@ -1,0 +1,5 @@
+mod UnionLaws
+mod TableLaws
+mod NumberedLaws
+mod LinkLaws
+mod ShownLaws
