@@ -1,5 +1,5 @@
 -- The names of files by numbers are segments of paths.
-use Rattle.std.proofs.Common.{◌≡◌, ◌≤◌, ◌+◌, ℕ, true, List, ◌++◌, length, length-append, arith, ◌∙◌}
+use Rattle.std.proofs.Common.{◌≡◌, ◌+◌, ℕ, true, List, ◌++◌, length, length-append, arith, ◌∙◌}
 use Rattle.std.specs.List.{list_all}
 use Rattle.ig_space.specs.Path.{is_segment, is_segment_byte}
 use Rattle.ig_defs.specs.QueueNameLaws.{are_bytes-from, is_segment-digits, length-digits}

@@ -1,5 +1,5 @@
 -- Texts that are joined, and texts that are split.
-use Rattle.std.proofs.Common.{◌≡◌, ◌≤◌, ◌<◌, ◌+◌, ◌==◌, ℕ, zero, suc, Bool, true, false, ◌&&◌, ◌||◌, nat_eq, List, [], ◌∷◌, ◌++◌, length, get_or, take, drop, bytes_eq, Result, Ok, Err, MatchResult, is_ok, IsUtf8, arith, refl, sym, ap, ap₂, ◌∙◌, drop-cons, take-suc, take_all, le_refl, ◌-◌, ne_eqb, eq-eqb}
+use Rattle.std.proofs.Common.{◌≡◌, ◌≤◌, ◌<◌, ◌+◌, ◌==◌, ℕ, suc, Bool, true, false, ◌&&◌, ◌||◌, nat_eq, List, [], ◌∷◌, ◌++◌, length, get_or, take, drop, bytes_eq, Result, Ok, Err, MatchResult, is_ok, IsUtf8, arith, refl, sym, ap, ap₂, ◌∙◌, drop-cons, take-suc, take_all, le_refl, ◌-◌, ne_eqb, eq-eqb}
 use Rattle.std.proofs.lemmas.Slice.Eq.{bytes_eq-Decides}
 use Rattle.std.proofs.lemmas.Str.{is_utf8-from_IsUtf8, IsUtf8-from_is_utf8}
 use Rattle.std.specs.Str.{is_utf8}

@@ -1,13 +1,13 @@
 -- The tasks of a sound stage.
-use Rattle.std.proofs.Common.{◌≡◌, ◌≤◌, ◌<◌, ◌+◌, ◌*◌, ◌^◌, ℕ, true, IfSome, arith, mul-pos, le_refl}
+use Rattle.std.proofs.Common.{◌≡◌, ◌≤◌, ◌<◌, ◌+◌, ◌^◌, ℕ, true, IfSome, arith, mul-pos, le_refl}
 use Rattle.ig_space.specs.Cells.{index-below}
 use Rattle.ig_space.specs.Geometry.{geometry_fits, Fits-from}
-use Rattle.ig_space.specs.Grid.{count_along, counts}
+use Rattle.ig_space.specs.Grid.{count_along}
 use Rattle.ig_record.specs.declared.stage.Stage.{Stage}
 use Rattle.ig_record.specs.Stage.{task_count, task_size}
 use Rattle.ig_record.specs.Sound.{is_sound}
 use Rattle.ig_record.specs.SoundFacts.{HasSides, IsScratch}
-use Rattle.ig_record.specs.SoundStages.{IsSound, IsSound-from, task-sides}
+use Rattle.ig_record.specs.SoundStages.{IsSound-from, task-sides}
 
 pub sound-fits : (s : Stage) → is_sound s ≡ true → geometry_fits s.source.geometry ≡ true
 sound-fits s h = (IsSound-from s h).fits

@@ -1,25 +1,24 @@
 -- The texts of records have no float.
-use Rattle.std.proofs.Common.{◌≡◌, ◌≤◌, ℕ, Bool, true, false, ◌||◌, List, [], ◌∷◌, length, map, take, codes, Option, Some, None, Result, Ok, Err, IfSome, IsOk, MatchResult, IsUtf8, Vec, Global, refl, ap, ap₂, sym, subst, ◌∙◌}
+use Rattle.std.proofs.Common.{◌≡◌, ◌≤◌, ℕ, true, false, List, [], ◌∷◌, length, map, take, Option, Some, None, Result, Ok, Err, IfSome, IsOk, MatchResult, IsUtf8, Vec, Global, refl, ap, sym, ◌∙◌}
 use Rattle.std.proofs.lemmas.List.{take_all}
 use Rattle.std.proofs.lemmas.Str.{IsUtf8-from_is_utf8}
 use Rattle.std.specs.Str.{is_utf8}
-use Rattle.serde_json.specs.Data.{Data, array, object, Items, no_items, item, Members, no_members, member}
-use Rattle.serde_json.specs.View.{view as data_of, items_of, items_view}
-use Rattle.serde_json.specs.Written.{compact_text, has_float, items_have_float, members_have_float}
+use Rattle.serde_json.specs.Data.{Data, array, item}
+use Rattle.serde_json.specs.View.{view as data_of, items_of}
+use Rattle.serde_json.specs.Written.{compact_text, has_float, items_have_float}
 use Rattle.serde_json.specs.declared.value.Value.{Value, Array}
 use Rattle.serde_json.proofs.Views.{view-Array}
 use Rattle.ig_space.specs.declared.geometry.Encoding.{Encoding}
 use Rattle.ig_space.specs.declared.geometry.Encoding.TheVariants.{Raw, Cseg}
-use Rattle.ig_space.specs.declared.geometry.Geometry.{Geometry}
 use Rattle.ig_space.specs.declared.place.Place.{Place}
 use Rattle.ig_info.specs.Dest.{point_data}
 use Rattle.ig_record.specs.declared.stage.InfoFile.{InfoFile}
 use Rattle.ig_record.specs.declared.stage.Stage.{Stage}
 use Rattle.ig_record.specs.Members.{record_of}
-use Rattle.ig_record.specs.Record.{block_data, geometry_data, info_data, kind_word, place_data, places_data, record_data, record_text, scratch_data}
+use Rattle.ig_record.specs.Record.{block_data, info_data, kind_word, place_data, places_data, record_data, record_text, scratch_data}
 use Rattle.ig_record.specs.Sound.{is_sound}
 use Rattle.ig_record.specs.SoundFacts.{IsPut}
-use Rattle.ig_record.specs.SoundStages.{IsSound, IsSound-from}
+use Rattle.ig_record.specs.SoundStages.{IsSound-from}
 
 -- ---- UTF-8
 pub utf8-ok : {X E : Type 0} (bytes : List ℕ) (r : Result X E) (same : X → List ℕ) (P : E → Type 0) → MatchResult r (λ x. (same x ≡ bytes) × IsUtf8 bytes) (λ e. (IsUtf8 bytes → ⊥) × P e) → is_utf8 bytes ≡ true → IsOk r

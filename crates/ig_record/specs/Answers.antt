@@ -1,5 +1,5 @@
 -- What the readers of records answer.
-use Rattle.std.specs.Prelude.{◌≡◌, ℕ, List, Option, None, Some, Result, Ok, Err, codes}
+use Rattle.std.specs.Prelude.{◌≡◌, Option, None, Some, Result, Ok, Err, codes}
 use Rattle.ig_record.specs.declared.error.RecordError.{RecordError}
 use Rattle.ig_record.specs.declared.error.RecordError.TheVariants.{BadRecord, Memory}
 

@@ -6,7 +6,6 @@ use Rattle.std.proofs.lemmas.Slice.Eq.{bytes_eq-Decides}
 use Rattle.std.specs.List.{AllByRecursion}
 use Rattle.std.specs.Str.{bytes_eq}
 use Rattle.serde_json.specs.Data.{Data, array}
-use Rattle.serde_json.specs.Read.{max_depth}
 use Rattle.ig_space.specs.declared.place.Place.{Place}
 use Rattle.ig_info.specs.Dest.{point_data}
 use Rattle.ig_info.specs.Whole.{parsed}
@@ -19,7 +18,7 @@ use Rattle.ig_record.specs.SmallNumbers.{geometry-small}
 use Rattle.ig_record.specs.Sound.{is_sound}
 use Rattle.ig_space.specs.Path.{is_path}
 use Rattle.ig_record.specs.SoundFacts.{IsScale, IsScratch}
-use Rattle.ig_record.specs.SoundStages.{IsSound, IsSound-from}
+use Rattle.ig_record.specs.SoundStages.{IsSound-from}
 use Rattle.ig_record.specs.StageBack.{stage-read, IsReadableStage}
 
 -- ---- a sound stage can be read back

@@ -1,13 +1,8 @@
 -- The texts of stages and of tasks, as compact JSON with the members in the order of their names: this project's own.
-use Rattle.std.specs.Prelude.{ℕ, ◌*◌, ◌-◌, ◌^◌, Bool, true, false, ◌&&◌, if◌then◌else◌, List, [], ◌∷◌, Option, None, Some, option_map, option_and_then, codes, ◌≡◌}
-use Rattle.std.specs.Str.{bytes_eq}
-use Rattle.serde_json.specs.Data.{Data, null, number, unsigned, string, array, object, Items, no_items, item, Members, no_members, member}
-use Rattle.serde_json.specs.Find.{get, as_array, as_null, as_number, as_str, as_u64}
+use Rattle.std.specs.Prelude.{ℕ, ◌*◌, true, List, [], ◌∷◌, Option, None, Some, codes, ◌≡◌}
+use Rattle.serde_json.specs.Data.{Data, null, number, unsigned, string, array, object, Items, no_items, item, no_members, member}
 use Rattle.serde_json.specs.Written.{compact_text}
-use Rattle.ig_space.specs.declared.point.Point.{Point}
 use Rattle.ig_space.specs.declared.point.Box3.{Box3}
-use Rattle.ig_space.specs.declared.geometry.Width.{Width}
-use Rattle.ig_space.specs.declared.geometry.Width.TheVariants.{W8, W16, W32, W64}
 use Rattle.ig_space.specs.declared.geometry.Encoding.{Encoding}
 use Rattle.ig_space.specs.declared.geometry.Encoding.TheVariants.{Raw, Cseg}
 use Rattle.ig_space.specs.declared.geometry.Geometry.{Geometry}

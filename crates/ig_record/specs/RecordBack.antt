@@ -1,12 +1,12 @@
 -- The data of a record is read back from JSON, part by part.
-use Rattle.std.specs.Prelude.{◌≡◌, ◌≤◌, ◌<◌, ◌-◌, ◌^◌, ◌*◌, ℕ, true, List, [], ◌∷◌, Option, None, Some, IfSome, IsUtf8, codes, decimal}
+use Rattle.std.specs.Prelude.{◌≡◌, ◌≤◌, ◌<◌, ◌-◌, ◌^◌, ◌*◌, ℕ, true, List, [], ◌∷◌, Option, None, Some, IfSome, IsUtf8, codes}
 use Rattle.std.proofs.Common.{arith, refl, lit≤, lit<}
 use Rattle.std.proofs.lemmas.Str.{IsUtf8-from_is_utf8}
 use Rattle.std.specs.List.{AllByRecursion}
 use Rattle.json.specs.Tree as tree
 use Rattle.json.proofs.Printed.Utf8.{IsUtf8-are_ascii}
-use Rattle.serde_json.specs.Data.{Data, number, unsigned, string, array, object, Items, no_items, item}
-use Rattle.serde_json.specs.Read.{number_of, of_json, of_items}
+use Rattle.serde_json.specs.Data.{Data, array, Items}
+use Rattle.serde_json.specs.Read.{of_json, of_items}
 use Rattle.serde_json.specs.Written.{outline, items_outline}
 use Rattle.serde_json.proofs.Numbers.{number_of-decimal}
 use Rattle.ig_space.specs.declared.point.Point.{Point}

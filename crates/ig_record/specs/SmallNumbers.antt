@@ -9,7 +9,7 @@ use Rattle.ig_space.specs.declared.geometry.Width.{Width}
 use Rattle.ig_space.specs.declared.geometry.Encoding.{Encoding}
 use Rattle.ig_space.specs.declared.geometry.Encoding.TheVariants.{Raw, Cseg}
 use Rattle.ig_space.specs.declared.geometry.Geometry.{Geometry}
-use Rattle.ig_space.specs.Geometry.{blocks_fit, count, encoding_fits, geometry_fits, is_wide, largest_padded, padded, padded_to, Fits, Fits-from}
+use Rattle.ig_space.specs.Geometry.{blocks_fit, count, encoding_fits, geometry_fits, is_wide, largest_padded, padded, padded_to, Fits-from}
 use Rattle.ig_space.specs.Path.{is_path, is_segment, is_segment_byte, segments, with_first, within}
 use Rattle.ig_space.specs.Segments.{is_path-segments}
 use Rattle.ig_record.specs.SoundFacts.{IsSmall}

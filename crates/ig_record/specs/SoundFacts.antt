@@ -1,10 +1,8 @@
 -- Facts about the members of stages: paths, splits of a directory, scales.
-use Rattle.std.specs.Prelude.{◌≡◌, ◌≤◌, ◌+◌, ◌-◌, ◌*◌, ◌^◌, ◌==◌, ℕ, suc, Bool, true, false, ◌&&◌, ◌||◌, List, [], ◌∷◌, ◌++◌, length, take, Option, None, Some, is_none, IfSome, nat_le, codes}
-use Rattle.std.proofs.Common.{arith, refl, ap, sym, ◌∙◌, subst, append_assoc, append-nil, length-append, le_trans, lit≤, mul-pos}
+use Rattle.std.specs.Prelude.{◌≡◌, ◌≤◌, ◌-◌, ◌*◌, ◌^◌, ◌==◌, ℕ, Bool, true, false, ◌&&◌, ◌||◌, List, [], ◌∷◌, ◌++◌, length, Option, None, Some, is_none, IfSome, nat_le, codes}
+use Rattle.std.proofs.Common.{arith, refl, ap, sym, subst, append_assoc, length-append, le_trans, lit≤, mul-pos}
 use Rattle.std.proofs.lemmas.Bool.{and_parts, leb-true, eqb-true}
-use Rattle.std.proofs.lemmas.Slice.Eq.{bytes_eq-Decides}
-use Rattle.std.specs.List.{AllByRecursion}
-use Rattle.std.specs.Str.{bytes_eq, is_utf8}
+use Rattle.std.specs.Str.{is_utf8}
 use Rattle.ig_space.specs.declared.point.Point.{Point}
 use Rattle.ig_space.specs.declared.geometry.Geometry.{Geometry}
 use Rattle.ig_space.specs.declared.geometry.Width.{Width}
@@ -162,9 +160,10 @@ chunk-small g h =
     let f = Fits-from g h in
     let c = g.chunk in
     let swapped : c.y * (c.x * c.z) ≡ c.x * (c.y * c.z) = grind arith in
-    let wide : 2 ^ 21 ≤ 2 ^ 40 = lit≤ tt in
-    (le_trans (factor-most c.x c.y c.z (2 ^ 21) f.y_step f.z_step f.few) wide,
-      le_trans (factor-most c.y c.x c.z (2 ^ 21) f.x_step f.z_step (subst (λ n. n ≤ 2 ^ 21) (sym swapped) f.few)) wide)
+    let wide : 2 ^ 21 ≤ 2 ^ 40 = lit≤ tt in (
+      le_trans (factor-most c.x c.y c.z (2 ^ 21) f.y_step f.z_step f.few) wide,
+      le_trans (factor-most c.y c.x c.z (2 ^ 21) f.x_step f.z_step (subst (λ n. n ≤ 2 ^ 21) (sym swapped) f.few)) wide,
+    )
 
 pub sides-fit : (g : Geometry) → geometry_fits g ≡ true → HasSides g.chunk
 sides-fit g h = let f = Fits-from g h in record { x = f.x_step; y = f.y_step; z = f.z_step }

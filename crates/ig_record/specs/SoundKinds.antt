@@ -1,8 +1,8 @@
 -- What a lawful stage has, by its kind.
-use Rattle.std.specs.Prelude.{◌≡◌, ◌≤◌, ◌==◌, ℕ, Bool, true, false, ◌&&◌, suc, List, [], ◌∷◌, length, drop, Option, None, Some, is_none, codes}
+use Rattle.std.specs.Prelude.{◌≡◌, ◌≤◌, ◌==◌, ℕ, Bool, true, ◌&&◌, suc, List, [], ◌∷◌, length, drop, Option, None, Some, is_none, codes}
 use Rattle.std.specs.Str.{bytes_eq, is_utf8}
 use Rattle.std.proofs.Common.{refl, sym, ap, ◌∙◌}
-use Rattle.std.proofs.lemmas.Bool.{and_parts, eqb-true, leb-true}
+use Rattle.std.proofs.lemmas.Bool.{and_parts, leb-true}
 use Rattle.std.proofs.lemmas.Slice.Eq.{bytes_eq-Decides}
 use Rattle.ig_space.specs.declared.geometry.Encoding.{Encoding}
 use Rattle.ig_space.specs.declared.geometry.Encoding.TheVariants.{Raw, Cseg}
@@ -19,7 +19,7 @@ use Rattle.ig_record.specs.declared.stage.Kind.TheVariants.{Xfer, Downsample, Fa
 use Rattle.ig_record.specs.declared.stage.InfoFile.{InfoFile}
 use Rattle.ig_record.specs.declared.stage.Stage.{Stage}
 use Rattle.ig_record.specs.Columns.{dirs_of_all}
-use Rattle.ig_record.specs.Sound.{are_apart, are_mips, before_name, components_name, counts_name, has_key, has_members, has_mips, has_scratch, is_copy, is_in_layer, is_info_in, is_info_of, is_layer, is_nothing, is_numbering, is_pass, is_relabelled, is_scale, is_word, most_mips, same_box, same_encoding, same_geometry, same_point, same_voxels}
+use Rattle.ig_record.specs.Sound.{are_apart, are_mips, before_name, components_name, counts_name, has_key, has_members, has_mips, has_scratch, is_in_layer, is_info_in, is_info_of, is_layer, is_nothing, is_pass, is_relabelled, is_scale, is_word, most_mips, same_box, same_encoding, same_geometry, same_point, same_voxels}
 use Rattle.ig_record.specs.SoundFacts.{IsDest, IsDir-joined, dest-from, is_none-None, same_point-from, same_width, with_points}
 
 -- ---- what stages have
@@ -198,9 +198,10 @@ mips-of layer g (dest ∷ dests) h =
     let key = drop (suc (length layer)) dest.dir in
     let a = and_parts (is_in_layer layer dest.dir) _ h in
     let b = and_parts (same_geometry (halved_geometry 1 g) dest.geometry) (are_mips layer (halved_geometry 1 g) dests) a.1 in
-    let d = and_parts (is_word key) (bytes_eq (joined layer key) dest.dir) a.0 in
-    (record { key = key; key_word = d.0; dir_is = sym (text-is (joined layer key) dest.dir d.1); geometry = same_geometry-from (halved_geometry 1 g) dest.geometry b.0 },
-      mips-of layer (halved_geometry 1 g) dests b.1)
+    let d = and_parts (is_word key) (bytes_eq (joined layer key) dest.dir) a.0 in (
+      record { key = key; key_word = d.0; dir_is = sym (text-is (joined layer key) dest.dir d.1); geometry = same_geometry-from (halved_geometry 1 g) dest.geometry b.0 },
+      mips-of layer (halved_geometry 1 g) dests b.1,
+    )
 
 has-mips : (layer : List ℕ) (source : Place) (dests : List Place) (info : Option InfoFile) → has_mips layer source dests info ≡ true → HasMips layer source dests info
 has-mips layer source dests None h = absurd cc

@@ -1,5 +1,5 @@
 -- What the rows of the table of kinds rest on: one record for a stage of any kind.
-use Rattle.std.specs.Prelude.{◌≡◌, ◌≤◌, ◌<◌, ◌+◌, ◌-◌, ◌*◌, ◌^◌, ℕ, zero, suc, true, List, [], ◌∷◌, length, Option, Some, None, IfSome}
+use Rattle.std.specs.Prelude.{◌≡◌, ◌≤◌, ◌<◌, ◌+◌, ◌-◌, ℕ, zero, suc, true, List, [], ◌∷◌, length, Option, Some, None, IfSome}
 use Rattle.std.specs.List.{AllByRecursion}
 use Rattle.std.proofs.Common.{arith, refl, sym, ap, ◌∙◌, subst, mul-pos, length-append, true≢false}
 use Rattle.std.proofs.lemmas.Nat.{pow_pos}
@@ -21,7 +21,7 @@ use Rattle.ig_record.specs.declared.stage.Kind.TheVariants.{Xfer, Downsample, Fa
 use Rattle.ig_record.specs.declared.stage.Stage.{Stage}
 use Rattle.ig_record.specs.Columns.{box_written}
 use Rattle.ig_record.specs.Sound.{components_name, counts_name, has_come, is_relabelled, is_word, most_mips}
-use Rattle.ig_record.specs.SoundFacts.{HasSides, IsDir, IsDir-joined, IsPut, IsScale, IsScratch, info-from, none-holds, sides-fit, some-holds, word-path}
+use Rattle.ig_record.specs.SoundFacts.{HasSides, IsDir-joined, IsPut, IsScale, IsScratch, info-from, none-holds, sides-fit, some-holds, word-path}
 use Rattle.ig_record.specs.SoundKinds.{AreMips, HasMips, IsCopyOf, IsLayerOf, IsOfKind, IsRemoval, of_xfer, of_downsample, of_faces, of_links, of_labels, of_relabel, of_count, of_sum, of_remove, numbered-from}
 use Rattle.ig_record.specs.Stage.{before_mips, shape_unit, task_box}
 
@@ -68,19 +68,21 @@ after m g = let next : m + 1 ≡ suc m = omega arith in geometry-after m g ∙ a
 mips-within : (layer : List ℕ) (g : Geometry) (b : Box3) (m : ℕ) (dests : List Place) → IsWithin b (space_of g) → AreMips layer (halved_geometry m g) dests
     → AllWithin (λ n. halved_box n g.offset b) (suc m) dests
 mips-within layer g b m [] w are = tt
-mips-within layer g b m (dest ∷ dests) w are =
-    (subst (λ (h : Geometry). IsWithin (halved_box (suc m) g.offset b) (space_of h)) (sym (are.0.geometry ∙ after m g)) (halved-within (suc m) g b w),
-      mips-within layer g b (suc m) dests w (subst (λ (h : Geometry). AreMips layer h dests) (after m g) are.1))
+mips-within layer g b m (dest ∷ dests) w are = (
+  subst (λ (h : Geometry). IsWithin (halved_box (suc m) g.offset b) (space_of h)) (sym (are.0.geometry ∙ after m g)) (halved-within (suc m) g b w),
+  mips-within layer g b (suc m) dests w (subst (λ (h : Geometry). AreMips layer h dests) (after m g) are.1),
+)
 
 mips-scales : (layer : List ℕ) (g : Geometry) (dests : List Place) → is_word layer ≡ true → geometry_fits g ≡ true → AreMips layer g dests → AllByRecursion IsScale dests
 mips-scales layer g [] word fits are = tt
 mips-scales layer g (dest ∷ dests) word fits are =
-    let next = geometry-fits 1 g fits in
-    (record {
+    let next = geometry-fits 1 g fits in (
+      record {
         dir = IsDir-joined dest.dir layer are.0.key are.0.dir_is word are.0.key_word;
         fits = subst (λ (h : Geometry). geometry_fits h ≡ true) (sym are.0.geometry) next;
       },
-      mips-scales layer (halved_geometry 1 g) dests word next are.1)
+      mips-scales layer (halved_geometry 1 g) dests word next are.1,
+    )
 
 long-sides : (m : ℕ) (chunk : Point) → HasSides chunk → HasSides (before_mips m chunk)
 long-sides m chunk sides = record { x = mul-pos (pow_pos m) sides.x; y = mul-pos (pow_pos m) sides.y; z = sides.z }

@@ -1,8 +1,8 @@
 -- What a sound stage has.
-use Rattle.std.specs.Prelude.{◌≡◌, ◌≤◌, ◌<◌, ◌+◌, ◌-◌, ◌*◌, ◌/◌, ◌^◌, ℕ, true, ◌&&◌, List, [], None, is_none, nat_le}
-use Rattle.std.proofs.Common.{arith, refl, ap, sym, ◌∙◌, subst}
+use Rattle.std.specs.Prelude.{◌≡◌, ◌≤◌, ◌<◌, ◌+◌, ◌-◌, ◌*◌, ◌/◌, ◌^◌, ℕ, true, ◌&&◌, List, [], None, nat_le}
+use Rattle.std.proofs.Common.{arith, refl, ap, ◌∙◌}
 use Rattle.std.proofs.lemmas.Bool.{and_parts, leb-true}
-use Rattle.ig_space.specs.Cells.{cell-within, index-below}
+use Rattle.ig_space.specs.Cells.{cell-within}
 use Rattle.ig_space.specs.Geometry.{geometry_fits, Fits-from}
 use Rattle.ig_space.specs.Grid.{IsGrid, IsWithin, cell_count, count_along, space_of}
 use Rattle.ig_record.specs.declared.stage.Kind.{Kind}

@@ -1,10 +1,8 @@
 -- The members of a record are read as the stage that it was written of.
-use Rattle.std.specs.Prelude.{◌≡◌, ◌≤◌, ◌-◌, ◌*◌, ◌^◌, ◌&&◌, ℕ, true, nat_le, List, [], ◌∷◌, ◌++◌, Option, None, Some, IfSome, option_and_then, codes}
+use Rattle.std.specs.Prelude.{◌≡◌, ◌≤◌, ◌-◌, ◌*◌, ◌^◌, ℕ, true, nat_le, List, [], ◌∷◌, ◌++◌, Option, None, Some, IfSome, option_and_then}
 use Rattle.std.proofs.Common.{arith, refl, sym, ap, ◌∙◌, le-leb, append_assoc, append-nil}
 use Rattle.std.proofs.lemmas.Bool.{and_from}
 use Rattle.std.specs.List.{AllByRecursion}
-use Rattle.serde_json.specs.Data.{Data, array}
-use Rattle.serde_json.specs.Find.{as_array, get}
 use Rattle.ig_space.specs.declared.point.Point.{Point}
 use Rattle.ig_space.specs.declared.geometry.Width.{Width}
 use Rattle.ig_space.specs.declared.geometry.Width.TheVariants.{W8, W16, W32, W64}

@@ -1,13 +1,12 @@
 -- The bytes of a task's text are those of exactly one task of a sound stage.
-use Rattle.std.specs.Prelude.{◌≡◌, ◌≤◌, ◌<◌, ◌+◌, ◌-◌, ◌^◌, ◌&&◌, ◌↔◌, ℕ, Bool, true, false, nat_lt, List, [], ◌∷◌, Option, None, Some, option_and_then, if◌then◌else◌, codes}
-use Rattle.std.proofs.Common.{arith, refl, sym, ap, ◌∙◌, subst, lt-ltb, ltb-true, le_trans, lt_of_lt_of_le, lit≤}
+use Rattle.std.specs.Prelude.{◌≡◌, ◌≤◌, ◌<◌, ◌+◌, ◌-◌, ◌^◌, ◌&&◌, ◌↔◌, ℕ, Bool, true, false, nat_lt, List, Option, None, Some, option_and_then, if◌then◌else◌, codes}
+use Rattle.std.proofs.Common.{arith, refl, ap, ◌∙◌, subst, lt-ltb, ltb-true, le_trans, lt_of_lt_of_le, lit≤}
 use Rattle.std.proofs.lemmas.Bool.{and_from, and_parts}
 use Rattle.std.proofs.lemmas.Slice.Eq.{bytes_eq-Decides}
 use Rattle.std.specs.Str.{bytes_eq}
 use Rattle.json.proofs.Printed.Utf8.{IsUtf8-are_ascii}
 use Rattle.serde_json.specs.Data.{Data}
 use Rattle.serde_json.proofs.Numbers.{number_of-decimal}
-use Rattle.ig_space.specs.declared.point.Point.{Point}
 use Rattle.ig_space.specs.declared.point.Box3.{Box3}
 use Rattle.ig_space.specs.declared.task_id.TaskId.{TaskId}
 use Rattle.ig_space.specs.Geometry.{Fits-from}

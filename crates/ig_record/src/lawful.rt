@@ -3,8 +3,8 @@ ghost use Rattle.std.specs.Prelude.{◌≡◌, ◌&&◌};
 ghost use Rattle.ig_record.specs.Columns.{dirs_of_all};
 ghost use Rattle.ig_record.specs.Sound.{are_apart, are_mips, has_come, has_layers, has_members, has_mips, has_split, is_copy as is_copy_of, is_info_of as is_info_of_dir, is_nothing, is_numbering as is_numbering_of, is_pass, is_scale};
 
-use crate::layers::{has_key, has_scratch, is_in_layer, is_info_in, is_info_of, is_word};
 use crate::geometries::{halved, is_relabelled, same_geometry, same_voxels};
+use crate::layers::{has_key, has_scratch, is_in_layer, is_info_in, is_info_of, is_word};
 use crate::lists::is_among;
 use crate::{InfoFile, Kind, Stage};
 use ig_space::{Geometry, Place};

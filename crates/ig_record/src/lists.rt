@@ -13,8 +13,8 @@ ghost use Rattle.ig_record.specs.Sound.{is_sound};
 ghost use Rattle.ig_record.specs.SoundFacts.{IsScratch};
 ghost use Rattle.ig_record.specs.Stage.{task_box, task_count};
 
-use crate::layers::is_joined;
 use crate::files::{add_named, add_numbered, add_numbered_all, path_in};
+use crate::layers::is_joined;
 use crate::neighbours::upper_neighbours;
 use crate::{Kind, Stage};
 use ig_space::{Box3, Geometry, Path, Paths, Place, Point, TryClone, chunk_path, chunks_of};
@@ -224,7 +224,12 @@ fn box_read(stage: &Stage, task: u32) -> Option<Box3>
 }
 
 /// Adds the planes and the parts of a task's box.
-fn add_faces(alloc: Global, paths: &mut Paths, scratch: &Option<Path>, task: u32) -> Result<(), AllocError>
+fn add_faces(
+    alloc: Global,
+    paths: &mut Paths,
+    scratch: &Option<Path>,
+    task: u32,
+) -> Result<(), AllocError>
     requires scratch { IfSome scratch.now IsScratch }
     requires small { task < 10 ^ 6 }
     ensures { OnOk result (paths.new ≡ paths.old ++ faces_of_all scratch.now (task ∷ [])) }
@@ -234,7 +239,12 @@ fn add_faces(alloc: Global, paths: &mut Paths, scratch: &Option<Path>, task: u32
 }
 
 /// Adds the planes and the parts of these boxes.
-fn add_faces_of(alloc: Global, paths: &mut Paths, scratch: &Option<Path>, tasks: &[u64]) -> Result<(), AllocError>
+fn add_faces_of(
+    alloc: Global,
+    paths: &mut Paths,
+    scratch: &Option<Path>,
+    tasks: &[u64],
+) -> Result<(), AllocError>
     requires scratch { IfSome scratch.now IsScratch }
     requires small { AllByRecursion (λ k. k < 10 ^ 6) tasks.now }
     ensures { OnOk result (paths.new ≡ paths.old ++ faces_of_all scratch.now tasks.now) }
@@ -247,7 +257,12 @@ fn add_faces_of(alloc: Global, paths: &mut Paths, scratch: &Option<Path>, tasks:
 
 /// Adds the paths that a task of links reads: of its own box, and of those one above it.
 #[tactic(auto, using(crate::proofs::TaskCounts::sound_scratch))]
-fn add_links_read(alloc: Global, paths: &mut Paths, stage: &Stage, task: u32) -> Result<(), AllocError>
+fn add_links_read(
+    alloc: Global,
+    paths: &mut Paths,
+    stage: &Stage,
+    task: u32,
+) -> Result<(), AllocError>
     requires sound { is_sound stage.now ≡ true }
     requires below { task < task_count stage.now }
     ensures { OnOk result (paths.new ≡ paths.old ++ scratch_read Links stage.now task) }
@@ -270,7 +285,12 @@ fn add_labels_read(alloc: Global, paths: &mut Paths, stage: &Stage) -> Result<()
 
 /// Adds the paths of earlier passes' files that a task reads.
 #[tactic(auto, using(crate::proofs::TaskCounts::sound_scratch))]
-fn add_scratch_read(alloc: Global, paths: &mut Paths, stage: &Stage, task: u32) -> Result<(), AllocError>
+fn add_scratch_read(
+    alloc: Global,
+    paths: &mut Paths,
+    stage: &Stage,
+    task: u32,
+) -> Result<(), AllocError>
     requires sound { is_sound stage.now ≡ true }
     requires below { task < task_count stage.now }
     ensures { OnOk result (paths.new ≡ paths.old ++ scratch_read stage.now.kind stage.now task) }

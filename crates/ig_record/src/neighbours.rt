@@ -59,13 +59,22 @@ fn above(alloc: Global, counts: Point, index: Point) -> Result<Values, AllocErro
 {
     let mut numbers = Values::new(alloc);
     if index.x + 1 < counts.x {
-        push_number(&mut numbers, number_of(counts, index.x + 1, index.y, index.z))?;
+        push_number(
+            &mut numbers,
+            number_of(counts, index.x + 1, index.y, index.z),
+        )?;
     }
     if index.y + 1 < counts.y {
-        push_number(&mut numbers, number_of(counts, index.x, index.y + 1, index.z))?;
+        push_number(
+            &mut numbers,
+            number_of(counts, index.x, index.y + 1, index.z),
+        )?;
     }
     if index.z + 1 < counts.z {
-        push_number(&mut numbers, number_of(counts, index.x, index.y, index.z + 1))?;
+        push_number(
+            &mut numbers,
+            number_of(counts, index.x, index.y, index.z + 1),
+        )?;
     }
     Ok(numbers)
 }

@@ -70,9 +70,7 @@ impl Records {
     fn removes_among(&self, number: u32, writer: &Stage) -> bool
         ensures { result ≡ list_any (removes_among number (output_dirs writer.now)) self.now }
     {
-        self.stages
-            .iter()
-            .any(|(other, stage)| removes_one(number, writer, *other, stage))
+        self.stages.iter().any(|(other, stage)| removes_one(number, writer, *other, stage))
     }
 
     /// Whether a stage, other than that with this number, removes one of the directories that a stage writes in.

@@ -1,5 +1,4 @@
 use Rattle.std.proofs.Common.{◌≡◌, ◌<◌}
-use Rattle.ig_space.specs.declared.task_id.TaskId.{TaskId}
 use Rattle.ig_record.specs.Reading.{task_in, IsTask}
 use Rattle.ig_record.specs.Record.{task_text}
 use Rattle.ig_record.specs.Stage.{task_count}

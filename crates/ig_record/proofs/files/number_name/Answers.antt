@@ -1,4 +1,4 @@
-use Rattle.std.proofs.Common.{◌≡◌, ◌<◌, ◌^◌, ◌++◌, ℕ, List, IfOk, string_bytes, ap, subst, ◌∙◌, arith}
+use Rattle.std.proofs.Common.{◌≡◌, ◌++◌, ℕ, List, IfOk, string_bytes, ap, subst, ◌∙◌, arith}
 use Rattle.std.specs.Fmt.{styled_decimal}
 use Rattle.ig_defs.specs.Padded.{written}
 use Rattle.ig_defs.specs.QueueNames.{digits}

@@ -1,4 +1,4 @@
-use Rattle.std.proofs.Common.{◌≡◌, ◌+◌, ◌++◌, ℕ, suc, List, length, drop, arith, ap, refl, sym, ◌∙◌}
+use Rattle.std.proofs.Common.{◌≡◌, ◌+◌, ◌++◌, suc, length, drop, arith, ap, refl, sym, ◌∙◌}
 use Rattle.ig_space.specs.Chunks.{chunks_in}
 use Rattle.ig_record.specs.Columns.{box_written, chunks_written}
 use Rattle.ig_record.specs.SoundStages.{IsSound-from, task-within}

@@ -1,4 +1,4 @@
-use Rattle.std.proofs.Common.{◌≤◌, ap, sym, subst}
+use Rattle.std.proofs.Common.{◌≤◌, sym, subst}
 use Rattle.ig_space.specs.declared.point.Point.{Point}
 use Rattle.ig_space.specs.Geometry.{count}
 use Rattle.ig_record.specs.Stage.{most_tasks}

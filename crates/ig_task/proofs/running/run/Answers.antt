@@ -22,7 +22,7 @@ returns-in_ok-removals-in-Remove c =
     }
 
 pub unreachable-requires : goal.unreachable-requires
-unreachable-requires c = not_come c.args.stage.now c.requires.sound (elim c.in-Downsample.is [ | inl e ↦ ap has_come e | inr more ↦ (elim more [ | inl e ↦ ap has_come e | inr rest ↦ (elim rest [ | inl e ↦ ap has_come e | inr e ↦ ap has_come e ]) ]) ])
+unreachable-requires c = not_come c.args.stage.now c.requires.sound (elim c.in-Downsample.is [ inl e ↦ ap has_come e | inr more ↦ (elim more [ inl e ↦ ap has_come e | inr rest ↦ (elim rest [ inl e ↦ ap has_come e | inr e ↦ ap has_come e ]) ]) ])
 
 pub unreachable-requires-in-Relabel : goal.unreachable-requires-in-Relabel
-unreachable-requires-in-Relabel c = not_come c.args.stage.now c.requires.sound (elim c.in-Relabel.is [ | inl e ↦ ap has_come e | inr more ↦ (elim more [ | inl e ↦ ap has_come e | inr e ↦ ap has_come e ]) ])
+unreachable-requires-in-Relabel c = not_come c.args.stage.now c.requires.sound (elim c.in-Relabel.is [ inl e ↦ ap has_come e | inr more ↦ (elim more [ inl e ↦ ap has_come e | inr e ↦ ap has_come e ]) ])

@@ -1,4 +1,4 @@
-use Rattle.std.proofs.Common.{arith, ◌≤◌, subst, sym}
+use Rattle.std.proofs.Common.{arith}
 use Rattle.ig_record.proofs.TaskCounts.{sound-fits, sound-sides}
 use Rattle.ig_record.specs.SoundStages.{IsSound-from}
 use Rattle.ig_record.proofs.stage.Stage.cells.Goals as goal

@@ -1,4 +1,4 @@
-use Rattle.std.proofs.Common.{arith, ap, sym, ◌*◌, ◌∙◌}
+use Rattle.std.proofs.Common.{arith, sym, ◌*◌, ◌∙◌}
 use Rattle.ig_space.specs.Geometry.{Fits-from}
 use Rattle.ig_record.proofs.HullLaws.{hulls-product}
 use Rattle.ig_record.proofs.stage.Stage.greatest_hull.Goals as goal
