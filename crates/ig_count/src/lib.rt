@@ -1,0 +1,9 @@
+//! How many voxels of a volume have each label: tables of labels with their numbers of voxels, ascending by label, which add
+//! up, and stand in files.
+#![tactic(auto)]
+
+mod counting;
+mod counts;
+
+pub use counting::count;
+pub use counts::{Counts, LabelCount};
