@@ -4,6 +4,8 @@
 
 mod counting;
 mod counts;
+mod merging;
 
 pub use counting::count;
 pub use counts::{Counts, LabelCount};
+pub use merging::merge;
