@@ -1,3 +1,5 @@
 pub mod RunSteps
 pub mod EntryLaws
 pub mod MergeSteps
+pub mod FileLaws
+pub mod TableLaws

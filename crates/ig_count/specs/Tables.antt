@@ -1,5 +1,5 @@
 -- Tables of counts: each label that occurs with its number of voxels, ascending by label.
-use Rattle.std.specs.Prelude.{ℕ, suc, ◌+◌, ◌≤◌, ◌<◌, ◌^◌, ◌≡◌, ◌==◌, if◌then◌else◌, List, [], ◌∷◌, sum_by, count_by}
+use Rattle.std.specs.Prelude.{ℕ, suc, ◌+◌, ◌≤◌, ◌<◌, ◌^◌, ◌≡◌, ◌==◌, if◌then◌else◌, List, [], ◌∷◌, sum_by, count_by, ◌⊎◌}
 use Rattle.ig_count.specs.declared.counts.LabelCount.{LabelCount}
 
 -- the labels ascend, from `low` on, and each has a voxel
@@ -20,6 +20,11 @@ voxels_at label c = where_same c.label label c.voxels
 -- the voxels that a table has for a label
 abbrev pub tally : List LabelCount → ℕ → ℕ
 tally counts label = sum_by (voxels_at label) counts
+
+-- the table has an item of the label
+abbrev pub IsListed : ℕ → List LabelCount → Type 0
+IsListed label [] = ⊥
+IsListed label (c ∷ cs) = (c.label ≡ label) ⊎ IsListed label cs
 
 abbrev pub label_of : LabelCount → ℕ
 label_of c = c.label

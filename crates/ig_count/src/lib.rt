@@ -4,8 +4,12 @@
 
 mod counting;
 mod counts;
+mod file;
+mod laws;
 mod merging;
 
 pub use counting::count;
 pub use counts::{Counts, LabelCount};
+pub use file::{read_counts, write_counts};
+pub use laws::{lists_labels, one_merged, one_table};
 pub use merging::merge;

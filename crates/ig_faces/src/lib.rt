@@ -9,5 +9,5 @@ mod records;
 
 pub use error::{BadFile, FileError};
 pub use records::{
-    Record, Rule, find_wrong, has_length, read_file, read_records, write_records,
+    Record, Rule, find_wrong, has_length, read_file, read_records, write_file, write_records,
 };

@@ -4,6 +4,7 @@ ghost use Rattle.ig_faces.specs.Explaining.{Explains};
 ghost use Rattle.ig_faces.specs.Records.{records_in, first_wrong, file_wrong, ReadsBack};
 
 use crate::{BadFile, FileError};
+use ig_space::Bytes;
 use std::alloc::{AllocError, Global};
 
 /// Numbers that stand side by side in a file, each with its lowest byte first.
@@ -106,6 +107,7 @@ pub fn read_file<R: Record, T: Rule<R>>(
     requires some { 1 ≤ R.EACH }
     requires head { head ≤ 8 }
     ensures records { IfOk result (λ records. records.items ≡ records_in R.read R.EACH count (drop head bytes.now)) }
+    ensures many { IfOk result (λ records. length records.items ≡ count) }
     ensures text { IfOk result (λ records. flat_map R.text records.items ≡ drop head bytes.now) }
     ensures right { OnOk result (file_wrong (T.wrong rule.now) R.read head R.EACH count bytes.now ≡ None) }
     ensures bad { IfErr result (Explains (file_wrong (T.wrong rule.now) R.read head R.EACH count bytes.now)) }
@@ -120,4 +122,22 @@ pub fn read_file<R: Record, T: Rule<R>>(
         return Err(FileError::Bad(BadFile { at }));
     }
     Ok(records)
+}
+
+/// A file of a head and the records.
+pub fn write_file<H: Record, R: Record>(
+    alloc: Global,
+    head: H,
+    records: &[R],
+) -> Result<Bytes, AllocError>
+    requires { H.EACH + R.EACH * length records.now < 2 ^ 64 }
+    ensures text { IfOk result (λ bytes. bytes ≡ H.text head ++ flat_map R.text records.now) }
+    ensures head { IfOk result (λ bytes. H.read bytes ≡ head) }
+    ensures back { IfOk result (λ bytes. records_in R.read R.EACH (length records.now) (drop H.EACH bytes) ≡ records.now) }
+    ensures length { IfOk result (λ bytes. length bytes ≡ H.EACH + R.EACH * length records.now) }
+{
+    let mut bytes = vec![in alloc; 0; H::EACH + R::EACH * records.len()]?;
+    head.write_to(&mut bytes);
+    write_records(records, &mut bytes[H::EACH..]);
+    Ok(Bytes::from_vec(bytes))
 }

@@ -12,3 +12,8 @@ find_wrong-requires g c =
     ∙ length-records_in g.R.Record.read g.R.Record.EACH c.args.count (take (length bytes - head) (drop head bytes)) in
     let same : head + g.R.Record.EACH * length c.as_slice.result.now ≡ head + g.R.Record.EACH * c.args.count = ap (λ n. head + g.R.Record.EACH * n) many in
     omega (arith, whole, each, same)
+
+pub returns-clause-many : goal.returns-clause-many
+returns-clause-many g c =
+    ap length c.in_ok-records.ensures.value
+    ∙ length-records_in g.R.Record.read g.R.Record.EACH c.args.count (take (length c.args.bytes.now - c.args.head) (drop c.args.head c.args.bytes.now))
