@@ -1,2 +1,6 @@
 pub mod Records
 pub mod Explaining
+pub mod Counted
+pub mod PartsFile
+pub mod LinksFile
+pub mod TableFile

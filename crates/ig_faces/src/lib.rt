@@ -3,11 +3,18 @@
 //! tested whole: a refusal names the byte where the first wrong field begins.
 #![tactic(auto)]
 
+mod counted;
 mod error;
+mod links;
 mod numbers;
+mod parts;
 mod records;
+mod table;
 
 pub use error::{BadFile, FileError};
+pub use links::{Link, Links, read_links, write_links};
+pub use parts::{Parts, read_parts, write_parts};
 pub use records::{
     Record, Rule, find_wrong, has_length, read_file, read_records, write_file, write_records,
 };
+pub use table::{Table, read_table, write_table};

@@ -109,6 +109,7 @@ pub fn read_file<R: Record, T: Rule<R>>(
     ensures records { IfOk result (λ records. records.items ≡ records_in R.read R.EACH count (drop head bytes.now)) }
     ensures many { IfOk result (λ records. length records.items ≡ count) }
     ensures text { IfOk result (λ records. flat_map R.text records.items ≡ drop head bytes.now) }
+    ensures tested { IfOk result (λ records. first_wrong (T.wrong rule.now) R.EACH head None records.items ≡ None) }
     ensures right { OnOk result (file_wrong (T.wrong rule.now) R.read head R.EACH count bytes.now ≡ None) }
     ensures bad { IfErr result (Explains (file_wrong (T.wrong rule.now) R.read head R.EACH count bytes.now)) }
 {
