@@ -3,3 +3,6 @@ pub mod RecordSteps
 pub mod NumberLaws
 pub mod CountedLaws
 pub mod PartLaws
+pub mod LinkLaws
+pub mod TableLaws
+pub mod PlaneLaws

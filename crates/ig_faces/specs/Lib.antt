@@ -4,3 +4,4 @@ pub mod Counted
 pub mod PartsFile
 pub mod LinksFile
 pub mod TableFile
+pub mod PlanesFile

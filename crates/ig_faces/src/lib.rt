@@ -8,12 +8,14 @@ mod error;
 mod links;
 mod numbers;
 mod parts;
+mod planes;
 mod records;
 mod table;
 
 pub use error::{BadFile, FileError};
 pub use links::{Link, Links, read_links, write_links};
 pub use parts::{Parts, read_parts, write_parts};
+pub use planes::{Plane, Planes, read_planes, write_planes};
 pub use records::{
     Record, Rule, find_wrong, has_length, read_file, read_records, write_file, write_records,
 };
