@@ -6,3 +6,4 @@ pub mod PartLaws
 pub mod LinkLaws
 pub mod TableLaws
 pub mod PlaneLaws
+pub mod FaceLaws

@@ -5,3 +5,4 @@ pub mod PartsFile
 pub mod LinksFile
 pub mod TableFile
 pub mod PlanesFile
+pub mod Faces

@@ -5,6 +5,7 @@
 
 mod counted;
 mod error;
+mod faces;
 mod links;
 mod numbers;
 mod parts;
@@ -13,6 +14,7 @@ mod records;
 mod table;
 
 pub use error::{BadFile, FileError};
+pub use faces::faces_of;
 pub use links::{Link, Links, read_links, write_links};
 pub use parts::{Parts, read_parts, write_parts};
 pub use planes::{Plane, Planes, read_planes, write_planes};
