@@ -7,3 +7,4 @@ pub mod LinkLaws
 pub mod TableLaws
 pub mod PlaneLaws
 pub mod FaceLaws
+pub mod Linked

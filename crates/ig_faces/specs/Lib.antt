@@ -6,3 +6,4 @@ pub mod LinksFile
 pub mod TableFile
 pub mod PlanesFile
 pub mod Faces
+pub mod Linking

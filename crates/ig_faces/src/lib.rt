@@ -6,6 +6,7 @@
 mod counted;
 mod error;
 mod faces;
+mod linking;
 mod links;
 mod numbers;
 mod parts;
@@ -15,6 +16,7 @@ mod table;
 
 pub use error::{BadFile, FileError};
 pub use faces::faces_of;
+pub use linking::links_of;
 pub use links::{Link, Links, read_links, write_links};
 pub use parts::{Parts, read_parts, write_parts};
 pub use planes::{Plane, Planes, read_planes, write_planes};
