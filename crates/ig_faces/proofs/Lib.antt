@@ -8,3 +8,4 @@ pub mod TableLaws
 pub mod PlaneLaws
 pub mod FaceLaws
 pub mod Linked
+pub mod TestedLaws

@@ -1,5 +1,5 @@
 -- The file of a table: for each part its number, in 4 bytes. This project's own.
-use Rattle.std.specs.Prelude.{ℕ, ◌^◌, ◌&&◌, ◌==◌, nat_le, if◌then◌else◌, List, length, Option, Some, None}
+use Rattle.std.specs.Prelude.{ℕ, ◌^◌, ◌&&◌, ◌==◌, ◌≤◌, nat_le, if◌then◌else◌, List, length, Option, Some, None}
 use Rattle.byteorder.specs.Endian.{little_bytes}
 use Rattle.ig_faces.specs.Counted.{counted_in, counted_text, counted_wrong}
 use Rattle.ig_faces.specs.Records.{number_in}
@@ -21,3 +21,7 @@ number_wrong before number = if nat_le 1 number && nat_le number (2 ^ 24) then N
 -- a file of another number of parts is wrong at its end
 abbrev pub table_wrong : ℕ → List ℕ → Option ℕ
 table_wrong count bytes = if number_in 4 bytes == count then counted_wrong number_wrong (number_in 4) 4 bytes else Some (length bytes)
+
+-- the number is one of 1, .., 2^24
+abbrev pub IsNumber : ℕ → Type 0
+IsNumber number = (1 ≤ number) × (number ≤ 2 ^ 24)

@@ -1,7 +1,7 @@
 //! The file of links.
-ghost use Rattle.std.specs.Prelude.{ℕ, Option, ◌≡◌, ◌<◌, ◌^◌, IfOk, IfErr, IfSome, OnOk, None, length};
+ghost use Rattle.std.specs.Prelude.{ℕ, Option, ◌≡◌, ◌<◌, ◌^◌, All, IfOk, IfErr, IfSome, OnOk, None, length};
 ghost use Rattle.ig_faces.specs.Explaining.{Explains};
-ghost use Rattle.ig_faces.specs.LinksFile.{is_before, link_in, link_text, link_wrong, links_in, links_text, links_wrong, neighbour, Others};
+ghost use Rattle.ig_faces.specs.LinksFile.{ends_wrong, is_before, link_in, link_text, link_wrong, links_in, links_text, links_wrong, neighbour, Others};
 ghost use Rattle.ig_faces.specs.Records.{first_wrong};
 
 use crate::counted::{read_counted, write_counted};
@@ -123,6 +123,7 @@ pub fn read_links(
 ) -> Result<Links, FileError>
     ensures links { IfOk result (λ links. links ≡ links_in bytes.now) }
     ensures text { IfOk result (λ links. links_text links ≡ bytes.now) }
+    ensures each { IfOk result (λ links. All (λ link. ends_wrong own (neighbour others link.axis) link ≡ None) links) }
     ensures right { OnOk result (links_wrong own others bytes.now ≡ None) }
     ensures bad { IfErr result (Explains (links_wrong own others bytes.now)) }
 {

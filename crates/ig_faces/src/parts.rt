@@ -1,5 +1,5 @@
 //! The file of the parts of a box.
-ghost use Rattle.std.specs.Prelude.{ℕ, Option, ◌≡◌, ◌<◌, ◌^◌, IfOk, IfErr, IfSome, OnOk, None, length, map};
+ghost use Rattle.std.specs.Prelude.{ℕ, Option, ◌≡◌, ◌<◌, ◌≤◌, ◌^◌, IfOk, IfErr, IfSome, OnOk, None, length, map, slice_index};
 ghost use Rattle.ig_faces.specs.Explaining.{Explains};
 ghost use Rattle.ig_faces.specs.PartsFile.{first_of, label_of, part_in, part_text, part_wrong, parts_in, parts_of, parts_text, parts_wrong};
 ghost use Rattle.ig_faces.specs.Records.{first_wrong};
@@ -122,6 +122,9 @@ pub fn write_parts(alloc: Global, firsts: &[u32], values: &[u64]) -> Result<Byte
 pub fn read_parts(alloc: Global, bytes: &[u8], voxels: u32) -> Result<Parts, FileError>
     ensures firsts { IfOk result (λ parts. parts.firsts ≡ map first_of (parts_in bytes.now)) }
     ensures values { IfOk result (λ parts. parts.values ≡ map label_of (parts_in bytes.now)) }
+    ensures below { IfOk result (λ parts. (k : ℕ) → k < length parts.firsts → slice_index parts.firsts k < voxels) }
+    ensures labels { IfOk result (λ parts. (k : ℕ) → k < length parts.values → 1 ≤ slice_index parts.values k) }
+    ensures same { IfOk result (λ parts. length parts.values ≡ length parts.firsts) }
     ensures text { IfOk result (λ parts. parts_text (parts_of parts.firsts parts.values) ≡ bytes.now) }
     ensures right { OnOk result (parts_wrong voxels bytes.now ≡ None) }
     ensures bad { IfErr result (Explains (parts_wrong voxels bytes.now)) }

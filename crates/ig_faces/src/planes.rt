@@ -1,5 +1,5 @@
 //! The file of the six planes of a box.
-ghost use Rattle.std.specs.Prelude.{ℕ, ◌≡◌, ◌+◌, ◌*◌, ◌<◌, ◌≤◌, ◌^◌, IfOk, IfErr, IfSome, OnOk, None, flat_map, length, map, sum};
+ghost use Rattle.std.specs.Prelude.{ℕ, ◌≡◌, ◌+◌, ◌*◌, ◌<◌, ◌≤◌, ◌^◌, IfOk, IfErr, IfSome, OnOk, None, flat_map, length, map, slice_index, sum};
 ghost use Rattle.std.specs.List.{concat};
 ghost use Rattle.ig_faces.specs.Explaining.{Explains};
 ghost use Rattle.ig_faces.specs.PlanesFile.{IsBox, place_wrong, plane_sizes, planes_in, planes_text, planes_wrong};
@@ -110,6 +110,7 @@ pub fn read_planes(alloc: Global, bytes: &[u8], size: Point, top: u32) -> Result
     ensures numbers { IfOk result (λ planes. concat planes ≡ planes_in size bytes.now) }
     ensures sizes { IfOk result (λ planes. map length planes ≡ plane_sizes size) }
     ensures text { IfOk result (λ planes. planes_text planes ≡ bytes.now) }
+    ensures each { IfOk result (λ planes. (k : ℕ) → k < length (concat planes) → slice_index (concat planes) k ≤ top) }
     ensures right { OnOk result (planes_wrong size top bytes.now ≡ None) }
     ensures bad { IfErr result (Explains (planes_wrong size top bytes.now)) }
 {

@@ -1,8 +1,8 @@
 //! The file of the numbers of parts.
-ghost use Rattle.std.specs.Prelude.{ℕ, ◌≡◌, ◌<◌, ◌^◌, IfOk, IfErr, IfSome, OnOk, None, length};
+ghost use Rattle.std.specs.Prelude.{ℕ, ◌≡◌, ◌<◌, ◌^◌, IfOk, IfErr, IfSome, OnOk, None, length, slice_index};
 ghost use Rattle.ig_faces.specs.Explaining.{Explains};
 ghost use Rattle.ig_faces.specs.Records.{first_wrong};
-ghost use Rattle.ig_faces.specs.TableFile.{number_wrong, table_in, table_text, table_wrong};
+ghost use Rattle.ig_faces.specs.TableFile.{IsNumber, number_wrong, table_in, table_text, table_wrong};
 
 use crate::counted::{read_counted, write_counted};
 use crate::{BadFile, FileError, Record, Rule};
@@ -47,6 +47,7 @@ pub fn read_table(alloc: Global, bytes: &[u8], count: u32) -> Result<Table, File
     ensures numbers { IfOk result (λ numbers. numbers ≡ table_in bytes.now) }
     ensures text { IfOk result (λ numbers. table_text numbers ≡ bytes.now) }
     ensures many { IfOk result (λ numbers. length numbers ≡ count) }
+    ensures each { IfOk result (λ numbers. (k : ℕ) → k < length numbers → IsNumber (slice_index numbers k)) }
     ensures right { OnOk result (table_wrong count bytes.now ≡ None) }
     ensures bad { IfErr result (Explains (table_wrong count bytes.now)) }
 {
