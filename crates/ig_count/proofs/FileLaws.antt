@@ -111,12 +111,6 @@ right-size bytes right =
     eqb-true (length bytes) (8 + 16 * number_in 8 bytes)
     (sized (length bytes == 8 + 16 * number_in 8 bytes) (length bytes) (first_wrong count_wrong 16 8 None (records_in count_in 16 (number_in 8 bytes) (drop 8 bytes))) right)
 
--- a file that is too short for its number of items
-pub short-wrong : (bytes : List ℕ) → length bytes < 8 → counts_wrong bytes ≡ Some (length bytes)
-short-wrong bytes short =
-    let size : (length bytes == 8 + 16 * number_in 8 bytes) ≡ false = ne_eqb (length bytes) (8 + 16 * number_in 8 bytes) (λ same. omega (arith, same)) in
-    ap (λ b. if b then first_wrong count_wrong 16 8 None (records_in count_in 16 (number_in 8 bytes) (drop 8 bytes)) else Some (length bytes)) size
-
 -- the text of the items that stand in a file
 pub text-whole : (counts : List LabelCount) (bytes : List ℕ) (n : ℕ) → little_bytes 8 n ≡ take 8 bytes → length counts ≡ n → flat_map count_text counts ≡ drop 8 bytes
     → counts_text counts ≡ bytes

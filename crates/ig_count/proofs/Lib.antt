@@ -1,4 +1,3 @@
-pub mod RunSteps
 pub mod EntryLaws
 pub mod MergeSteps
 pub mod FileLaws

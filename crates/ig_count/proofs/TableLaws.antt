@@ -1,8 +1,9 @@
 -- A table is told by its tallies.
-use Rattle.std.proofs.Common.{arith, ◌≡◌, ◌+◌, ◌<◌, ◌≤◌, ◌==◌, ◌↔◌, ℕ, suc, zero, Bool, true, false, List, [], ◌∷◌, if◌then◌else◌, refl, ap, sym, ◌∙◌, subst, inl, inr, ◌⊎◌}
+use Rattle.std.proofs.Common.{arith, ◌≡◌, ◌+◌, ◌<◌, ◌≤◌, ◌==◌, ◌↔◌, ℕ, suc, zero, Bool, true, false, List, [], ◌∷◌, ◌^◌, if◌then◌else◌, refl, ap, sym, ◌∙◌, subst, inl, inr, ◌⊎◌}
 use Rattle.std.proofs.lemmas.Bool.{cases_eq, cases_order, eq-eqb, ne_eqb}
 use Rattle.std.proofs.lemmas.List.Sums.{sum_by-cons}
 use Rattle.ig_count.specs.declared.counts.LabelCount.{LabelCount}
+use Rattle.ig_count.specs.CountsFile.{AreFew}
 use Rattle.ig_count.specs.Tables.{AreCounts, IsFrom, IsListed, IsMerged, IsTable, tally, times, voxels_at}
 
 first : (c : LabelCount) (cs : List LabelCount) (label : ℕ) → tally (c ∷ cs) label ≡ voxels_at label c + tally cs label
@@ -90,3 +91,20 @@ lists-labels labels counts are label = (
   λ listed. subst (λ n. 1 ≤ n) (are.each label) (listed_has 0 label counts are.is_table listed),
   λ occurs. has_listed label counts (subst (λ n. 1 ≤ n) (sym (are.each label)) occurs),
 )
+
+-- ---- tables with few voxels a label
+few_or : (low label : ℕ) (c : LabelCount) (cs : List LabelCount) → IsFrom low (c ∷ cs) → c.voxels ≤ 2 ^ 44 → tally cs label ≤ 2 ^ 44
+    → (c.label ≡ label) ⊎ (c.label ≡ label → ⊥) → tally (c ∷ cs) label ≤ 2 ^ 44
+few_or low label c cs from here later (inl same) =
+    let rest : tally cs c.label ≡ 0 = tally_below (suc c.label) c.label cs (omega arith) from.2 in
+    let none : tally cs label ≡ 0 = ap (tally cs) (sym same) ∙ rest in
+    omega (arith, first c cs label, own c label same, none, here)
+few_or low label c cs from here later (inr other) = omega (arith, first c cs label, none c label other, later)
+
+few_from : (low label : ℕ) (cs : List LabelCount) → IsFrom low cs → AreFew cs → tally cs label ≤ 2 ^ 44
+few_from low label [] from few = omega arith
+few_from low label (c ∷ cs) from few =
+    few_or low label c cs from (few 0 c (omega arith)) (few_from (suc c.label) label cs from.2 (λ k d l. few (suc k) d (omega arith))) (cases_eq c.label label)
+
+pub few-fit : (counts : List LabelCount) → IsTable counts → AreFew counts → (label : ℕ) → tally counts label ≤ 2 ^ 44
+few-fit counts table few label = few_from 0 label counts table few

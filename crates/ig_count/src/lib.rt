@@ -11,5 +11,5 @@ mod merging;
 pub use counting::count;
 pub use counts::{Counts, LabelCount};
 pub use file::{read_counts, write_counts};
-pub use laws::{lists_labels, one_merged, one_table};
+pub use laws::{few_fit, lists_labels, one_merged, one_table};
 pub use merging::merge;
