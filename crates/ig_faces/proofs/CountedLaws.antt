@@ -1,11 +1,7 @@
 -- Files that begin with the number of their records.
-use Rattle.std.proofs.Common.{arith, ◌≡◌, ◌+◌, ◌*◌, ◌<◌, ◌==◌, ℕ, Bool, true, false, List, ◌++◌, length, take, drop, if◌then◌else◌, Option, Some, None, Result, Ok, Err, IfOk, refl, ap, sym, ◌∙◌}
-use Rattle.std.proofs.lemmas.Bool.{eq-eqb, ne_eqb}
-use Rattle.std.proofs.lemmas.List.{take-append-drop}
-use Rattle.std.specs.List.{flat_map}
-use Rattle.byteorder.specs.Endian.{little_bytes}
-use Rattle.ig_faces.specs.Records.{file_wrong, first_wrong, number_in, records_in}
-use Rattle.ig_faces.specs.Counted.{counted_in, counted_text, counted_wrong}
+use Rattle.std.proofs.Common.{◌≡◌, ◌+◌, ◌*◌, ℕ, List, length, drop, if◌then◌else◌, Option, Some, None, ap}
+use Rattle.std.proofs.lemmas.Bool.{eq-eqb}
+use Rattle.ig_faces.specs.Records.{file_wrong, first_wrong, records_in}
 
 -- a file of this length is as wrong as its records are
 pub whole-file : {A : Type 0} (wrong : Option A → A → Option ℕ) (read : List ℕ → A) (head each n : ℕ) (bytes : List ℕ) → length bytes ≡ head + each * n

@@ -1,5 +1,5 @@
 -- Links as numbers.
-use Rattle.std.proofs.Common.{arith, ◌≡◌, ◌+◌, ℕ, List, ◌++◌, length, drop, refl, ap, sym, ◌∙◌, append_assoc}
+use Rattle.std.proofs.Common.{arith, ◌≡◌, ◌++◌, drop, ap, sym, ◌∙◌, append_assoc}
 use Rattle.std.proofs.lemmas.List.{drop_at, drop-drop, length-append}
 use Rattle.byteorder.specs.Endian.{little_bytes}
 use Rattle.ig_faces.specs.declared.links.Link.{Link}

@@ -1,6 +1,6 @@
 -- Parts as first voxels and labels.
-use Rattle.std.proofs.Common.{arith, ◌≡◌, ◌+◌, ◌<◌, ℕ, suc, List, [], ◌∷◌, ◌++◌, length, take, drop, map, refl, ap, sym, ◌∙◌, append_assoc}
-use Rattle.std.proofs.lemmas.List.{drop_at, length-append, take-take}
+use Rattle.std.proofs.Common.{arith, ◌≡◌, ℕ, List, [], ◌∷◌, ◌++◌, drop, map, refl, ap, sym, ◌∙◌, append_assoc}
+use Rattle.std.proofs.lemmas.List.{drop_at, length-append}
 use Rattle.byteorder.specs.Endian.{little_bytes}
 use Rattle.ig_faces.specs.declared.parts.Part.{Part}
 use Rattle.ig_faces.specs.PartsFile.{first_of, label_of, part_in, part_text, parts_of}

@@ -1,5 +1,5 @@
 -- Planes of a box, and their numbers one after the other.
-use Rattle.std.proofs.Common.{arith, ◌≡◌, ◌+◌, ◌*◌, ◌<◌, ◌≤◌, ◌^◌, ◌==◌, ℕ, List, [], ◌∷◌, ◌++◌, length, map, sum, drop, take, get_or, append_assoc, ◌-◌, if◌then◌else◌, Option, Some, None, Result, Ok, Err, IfOk, refl, ap, sym, ◌∙◌}
+use Rattle.std.proofs.Common.{arith, ◌≡◌, ◌+◌, ◌*◌, ◌<◌, ◌≤◌, ◌^◌, ℕ, List, [], ◌∷◌, ◌++◌, length, map, sum, drop, take, get_or, append_assoc, ◌-◌, None, Result, Ok, Err, IfOk, ap, sym, ◌∙◌}
 use Rattle.std.proofs.Math.Nat.{mul-le-mul_left, mul-le-mul_right}
 use Rattle.std.proofs.lemmas.List.Concat.{length-flat_map}
 use Rattle.std.proofs.Math.Seq.{take-add}
@@ -7,7 +7,6 @@ use Rattle.std.proofs.lemmas.List.{append-nil, length-drop, length-take-le, map_
 use Rattle.std.proofs.lemmas.List.Sums.{sum-map, sum_by-take-le, sum_by_more}
 use Rattle.std.specs.List.{concat}
 use Rattle.ig_space.specs.declared.point.Point.{Point}
-use Rattle.ig_space.specs.Geometry.{count}
 use Rattle.ig_faces.specs.PlanesFile.{IsBox, place_wrong, plane_sizes, planes_in, planes_wrong}
 use Rattle.ig_faces.specs.Records.{first_wrong, number_in, records_in}
 use Rattle.ig_faces.proofs.CountedLaws.{whole-file}

@@ -1,10 +1,10 @@
 -- Laws of records that stand one after the other.
-use Rattle.std.proofs.Common.{arith, ◌≡◌, ◌+◌, ◌*◌, ◌/◌, ◌%◌, ◌<◌, ◌≤◌, ℕ, zero, suc, List, [], ◌∷◌, ◌++◌, length, take, drop, get_or, Option, Some, None, refl, ap, sym, ◌∙◌, subst, length-append, append_assoc}
+use Rattle.std.proofs.Common.{arith, ◌≡◌, ◌+◌, ◌*◌, ℕ, zero, suc, List, [], ◌∷◌, ◌++◌, length, take, drop, refl, ap, sym, subst, length-append, append_assoc}
 use Rattle.std.proofs.lemmas.List.{drop-drop, append-nil}
 use Rattle.std.proofs.Math.Nat.{mul-zero}
 use Rattle.std.proofs.Math.Seq.{drop-append_seam, take-add}
 use Rattle.std.specs.List.{flat_map}
-use Rattle.ig_faces.specs.Records.{records_in, first_wrong, placed, ReadsBack, AllReadBack}
+use Rattle.ig_faces.specs.Records.{records_in, ReadsBack, AllReadBack}
 
 -- one record more
 pub records-more : {A : Type 0} (read : List ℕ → A) (each n : ℕ) (bytes : List ℕ)

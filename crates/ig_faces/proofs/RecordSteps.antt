@@ -1,7 +1,7 @@
 -- One step of the loops that read and write records.
 use borrow.Rule.Slice.PartMut.{put_mid, post_of}
-use Rattle.std.proofs.Common.{arith, ◌≡◌, ◌+◌, ◌-◌, ◌*◌, ◌<◌, ◌≤◌, ℕ, List, [], ◌∷◌, ◌++◌, length, take, drop, get_or, refl, ap, sym, ◌∙◌, subst, append_assoc}
-use Rattle.std.proofs.lemmas.List.{append-nil, drop-drop, drop_all, drop_at, length-append, length-drop, length-take-le, take_all, take_at, take_more, take_rest}
+use Rattle.std.proofs.Common.{arith, ◌≡◌, ◌+◌, ◌-◌, ◌*◌, ◌<◌, ◌≤◌, ℕ, List, [], ◌∷◌, ◌++◌, length, take, drop, get_or, ap, sym, ◌∙◌, subst, append_assoc}
+use Rattle.std.proofs.lemmas.List.{append-nil, drop-drop, drop_all, drop_at, length-drop, length-take-le, take_all, take_at, take_more, take_rest}
 use Rattle.std.proofs.Math.Nat.{mul-le-mul_left}
 use Rattle.std.specs.List.{flat_map}
 use Rattle.ig_faces.specs.Records.{records_in, ReadsBack, AllReadBack}
@@ -45,11 +45,10 @@ write-step read text each q p xs r old bytes new same below at is all put back =
     let len : length (flat_map text (take p xs)) ≡ each * p = length-text each read text (take p xs) all ∙ ap (λ n. each * n) (length-take-le p xs (omega arith)) in
     let there : q * p ≡ each * p = ap (λ n. n * p) same in
     let put' : new ≡ text r ++ drop each (take (length bytes - each * p) (drop (each * p) bytes)) = put ∙ ap (λ n. text r ++ drop each (take (length bytes - n) (drop n bytes))) there in
-    let end : each * p + each ≡ each * (p + 1) = omega arith in
-    (
+    let end : each * p + each ≡ each * (p + 1) = omega arith in (
       ap (λ n. put_mid n (length bytes - n) bytes new) there ∙ put_rest (each * p) each (flat_map text (take p xs)) old bytes (text r) new is len put'
-      ∙ ap (λ n. (flat_map text (take p xs) ++ text r) ++ drop n old) end
-      ∙ ap (λ l. l ++ drop (each * (p + 1)) old) (sym (ap (flat_map text) more ∙ flat_map-push text (take p xs) r)),
+          ∙ ap (λ n. (flat_map text (take p xs) ++ text r) ++ drop n old) end
+          ∙ ap (λ l. l ++ drop (each * (p + 1)) old) (sym (ap (flat_map text) more ∙ flat_map-push text (take p xs) r)),
       subst (AllReadBack each read text) (sym more) (AllReadBack-push each read text (take p xs) r all back),
     )
 

@@ -1,5 +1,5 @@
 -- A table's file is right where its numbers are.
-use Rattle.std.proofs.Common.{◌≡◌, ◌==◌, ℕ, List, length, if◌then◌else◌, Option, Some, None, Result, Ok, Err, IfOk, ap, ◌∙◌}
+use Rattle.std.proofs.Common.{◌≡◌, ℕ, List, length, if◌then◌else◌, Option, Some, None, Result, Ok, Err, IfOk, ap, ◌∙◌}
 use Rattle.std.proofs.lemmas.Bool.{eq-eqb}
 use Rattle.ig_faces.specs.Counted.{counted_wrong}
 use Rattle.ig_faces.specs.Records.{first_wrong, number_in}

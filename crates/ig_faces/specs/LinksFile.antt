@@ -1,5 +1,5 @@
 -- The file of links: the axis, the own part and the other part of each, in 4 bytes each. This project's own.
-use Rattle.std.specs.Prelude.{ℕ, ◌+◌, ◌<◌, ◌≡◌, ◌&&◌, ◌||◌, ◌==◌, Bool, true, false, nat_le, nat_lt, if◌then◌else◌, List, ◌++◌, drop, slice_get, Option, Some, None}
+use Rattle.std.specs.Prelude.{ℕ, ◌&&◌, ◌||◌, ◌==◌, Bool, true, nat_le, nat_lt, if◌then◌else◌, List, ◌++◌, drop, slice_get, Option, Some, None}
 use Rattle.byteorder.specs.Endian.{little_bytes}
 use Rattle.ig_faces.specs.declared.links.Link.{Link}
 use Rattle.ig_faces.specs.Counted.{counted_in, counted_text, counted_wrong}

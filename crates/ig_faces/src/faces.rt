@@ -81,7 +81,15 @@ fn x_plane(alloc: Global, size: Point, local: &[u32], x: u64) -> Result<Plane, A
 {
     let row = size.x as usize;
     let side = size.y as usize;
-    plane(alloc, local, x as usize, row, side, row * side, size.z as usize)
+    plane(
+        alloc,
+        local,
+        x as usize,
+        row,
+        side,
+        row * side,
+        size.z as usize,
+    )
 }
 
 /// The plane of the voxels with this y.
@@ -93,7 +101,15 @@ fn y_plane(alloc: Global, size: Point, local: &[u32], y: u64) -> Result<Plane, A
 {
     let row = size.x as usize;
     let layer = row * size.y as usize;
-    plane(alloc, local, row * y as usize, 1, row, layer, size.z as usize)
+    plane(
+        alloc,
+        local,
+        row * y as usize,
+        1,
+        row,
+        layer,
+        size.z as usize,
+    )
 }
 
 /// The plane of the voxels with this z.

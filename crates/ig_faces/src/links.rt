@@ -63,8 +63,7 @@ struct LinkRule {
 fn is_before(a: Link, b: Link) -> bool
     ensures { result ≡ is_before a b }
 {
-    a.axis < b.axis
-        || a.axis == b.axis && (a.own < b.own || a.own == b.own && a.other < b.other)
+    a.axis < b.axis || a.axis == b.axis && (a.own < b.own || a.own == b.own && a.other < b.other)
 }
 
 /// How many parts the neighbour along the axis has, if there is one.
@@ -127,9 +126,5 @@ pub fn read_links(
     ensures right { OnOk result (links_wrong own others bytes.now ≡ None) }
     ensures bad { IfErr result (Explains (links_wrong own others bytes.now)) }
 {
-    Ok(Links::from_vec(read_counted(
-        alloc,
-        bytes,
-        &LinkRule { own, others },
-    )?))
+    Ok(Links::from_vec(read_counted(alloc, bytes, &LinkRule { own, others })?))
 }

@@ -36,14 +36,7 @@ impl Rule<u32> for PlaceRule {
 }
 
 /// How many voxels the planes have.
-#[tactic(
-    auto,
-    using(
-        crate::proofs::PlaneLaws::x_bound,
-        crate::proofs::PlaneLaws::y_bound,
-        crate::proofs::PlaneLaws::z_bound
-    )
-)]
+#[tactic(auto, using(crate::proofs::PlaneLaws::x_bound, crate::proofs::PlaneLaws::y_bound, crate::proofs::PlaneLaws::z_bound))]
 fn plane_sizes(size: Point) -> [usize; 6]
     requires { IsBox size }
     ensures sizes { result ≡ plane_sizes size }

@@ -27,7 +27,11 @@ impl Rule<u32> for NumberRule {
         ensures within { IfSome result (λ at. at < 4) }
     {
         let _ = before;
-        if next == 0 || next > MOST { Some(0) } else { None }
+        if next == 0 || next > MOST {
+            Some(0)
+        } else {
+            None
+        }
     }
 }
 

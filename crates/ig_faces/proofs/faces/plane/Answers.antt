@@ -1,4 +1,4 @@
-use Rattle.std.proofs.Common.{arith, ◌≡◌, ◌+◌, ◌*◌, ◌<◌, ◌++◌, ap, sym, ◌∙◌, length, slice_index}
+use Rattle.std.proofs.Common.{arith, ◌+◌, ◌*◌, ◌<◌, ◌++◌, ap, sym, ◌∙◌, length, slice_index}
 use Rattle.ig_space.specs.Chunks.{listed}
 use Rattle.ig_faces.proofs.FaceLaws.{plane-more}
 use Rattle.ig_faces.proofs.faces.plane.Goals as goal

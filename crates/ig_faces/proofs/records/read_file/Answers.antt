@@ -1,4 +1,4 @@
-use Rattle.std.proofs.Common.{arith, ◌≡◌, ◌+◌, ◌*◌, length, take, drop, ◌-◌, ap, ◌∙◌, IsTrue}
+use Rattle.std.proofs.Common.{arith, ◌≡◌, ◌+◌, ◌*◌, length, take, drop, ◌-◌, ap, ◌∙◌}
 use Rattle.ig_faces.proofs.RecordLaws.{length-records_in}
 use Rattle.ig_faces.proofs.records.read_file.Goals as goal
 
