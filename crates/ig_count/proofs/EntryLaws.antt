@@ -1,6 +1,6 @@
 -- The entries of a map from labels to numbers of voxels, as a table.
-use Rattle.std.proofs.Common.{arith, ◌≡◌, ◌+◌, ◌<◌, ◌≤◌, ◌==◌, ℕ, suc, zero, Bool, true, false, List, [], ◌∷◌, map, length, slice_index, get_or, if◌then◌else◌, cond, nat_eq, unwrap_or, Some, None, refl, ap, sym, ◌∙◌, subst, inl, inr, ◌⊎◌, sum_by}
-use Rattle.std.proofs.lemmas.Bool.{cases_eq, eq-eqb, ne_eqb, eqb-true, eqb-false, false≢true}
+use Rattle.std.proofs.Common.{arith, ◌≡◌, ◌+◌, ◌<◌, ◌≤◌, ◌==◌, ℕ, suc, true, false, List, [], ◌∷◌, map, length, slice_index, get_or, if◌then◌else◌, cond, nat_eq, unwrap_or, Some, refl, ap, sym, ◌∙◌, subst, inl, inr, ◌⊎◌}
+use Rattle.std.proofs.lemmas.Bool.{cases_eq, eq-eqb, ne_eqb, eqb-false}
 use Rattle.std.proofs.lemmas.List.Sums.{sum_by-cons}
 use Rattle.std.proofs.lemmas.Map.Keys.{IsDistinct-head, IsDistinct-IsPermutation, IsDistinct-tail, IsStrictlyIncreasing-from_distinct}
 use Rattle.std.proofs.lemmas.List.{get_or-map, length-map}
@@ -9,7 +9,7 @@ use Rattle.std.specs.List.{All, AllByRecursion, IsDistinct}
 use Rattle.std.specs.List.Sorted.{IsNonDecreasing, IsNonDecreasingBy, IsPermutation, IsStrictlyIncreasing}
 use Rattle.std.specs.Map.{keys_of, lookup}
 use Rattle.ig_count.specs.declared.counts.LabelCount.{LabelCount}
-use Rattle.ig_count.specs.Tables.{IsFrom, IsTable, as_count, label_of, tally, voxels_at, where_same}
+use Rattle.ig_count.specs.Tables.{IsFrom, IsTable, as_count, label_of, tally, voxels_at}
 
 -- a label that is no key has no voxels
 tally_none : (label : ℕ) (es : List (ℕ × ℕ)) → AllByRecursion (λ y. nat_eq label y ≡ false) (keys_of es) → tally (map as_count es) label ≡ 0

@@ -1,7 +1,6 @@
 -- A text is right exactly where its items are a table with few voxels each.
-use Rattle.std.proofs.Common.{arith, ◌≡◌, ◌+◌, ◌<◌, ◌≤◌, ◌&&◌, ◌^◌, ◌*◌, ◌==◌, ◌++◌, drop, take, append_assoc, Result, Ok, Err, IfOk, ℕ, suc, zero, Bool, true, false, nat_lt, nat_le, List, [], ◌∷◌, if◌then◌else◌, Option, Some, None, length, refl, ap, sym, ◌∙◌, subst}
-use Rattle.std.proofs.lemmas.Bool.{and_parts, eq-eqb, eqb-true, leb-true, ltb-true, lt-ltb, le-leb, ne_eqb}
-use Rattle.std.specs.List.{All}
+use Rattle.std.proofs.Common.{arith, ◌≡◌, ◌+◌, ◌≤◌, ◌&&◌, ◌*◌, ◌==◌, ◌++◌, drop, take, append_assoc, Result, Ok, Err, IfOk, ℕ, suc, zero, Bool, true, false, nat_le, List, [], ◌∷◌, if◌then◌else◌, Option, Some, None, length, refl, ap, sym, ◌∙◌, subst}
+use Rattle.std.proofs.lemmas.Bool.{and_parts, eq-eqb, eqb-true, leb-true, ltb-true, lt-ltb, le-leb}
 use Rattle.std.proofs.lemmas.List.{drop_at, length-append, take-append-drop}
 use Rattle.std.specs.List.{flat_map}
 use Rattle.byteorder.specs.Endian.{little_bytes}

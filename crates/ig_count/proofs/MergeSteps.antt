@@ -1,10 +1,9 @@
 -- The sum of two items of one label.
-use Rattle.std.proofs.Common.{arith, ◌≡◌, ◌+◌, ◌<◌, ◌≤◌, ◌==◌, ℕ, suc, zero, Bool, true, false, List, [], ◌∷◌, ◌++◌, if◌then◌else◌, length, get_or, ◌^◌, refl, ap, sym, ◌∙◌, subst, append_assoc}
+use Rattle.std.proofs.Common.{arith, ◌≡◌, ◌+◌, ◌<◌, ℕ, List, if◌then◌else◌, length, get_or, ◌^◌, refl, ap}
 use Rattle.std.proofs.lemmas.Bool.{eq-eqb}
-use Rattle.std.proofs.lemmas.List.{append-nil}
-use Rattle.std.proofs.lemmas.List.Sums.{get_or-le-sum_by, sum_by-append, sum_by-cons, sum_by_push}
+use Rattle.std.proofs.lemmas.List.Sums.{get_or-le-sum_by}
 use Rattle.ig_count.specs.declared.counts.LabelCount.{LabelCount}
-use Rattle.ig_count.specs.Tables.{IsFrom, IsMerged, IsTable, tally, voxels_at, where_same}
+use Rattle.ig_count.specs.Tables.{tally, voxels_at}
 
 own_voxels : (c : LabelCount) (label : ℕ) → c.label ≡ label → voxels_at label c ≡ c.voxels
 own_voxels c label same = ap (λ b. if b then c.voxels else 0) (eq-eqb c.label label same)

@@ -1,6 +1,6 @@
 -- The file of a table of counts: the number of its items, then each label and its voxels, in 8 bytes each with the lowest
 -- first. This project's own.
-use Rattle.std.specs.Prelude.{ℕ, suc, ◌≤◌, ◌^◌, ◌&&◌, Bool, true, nat_lt, nat_le, if◌then◌else◌, List, ◌++◌, length, drop, flat_map, Option, Some, None, All}
+use Rattle.std.specs.Prelude.{ℕ, ◌≤◌, ◌^◌, ◌&&◌, Bool, true, nat_lt, nat_le, if◌then◌else◌, List, ◌++◌, length, drop, flat_map, Option, Some, None, All}
 use Rattle.byteorder.specs.Endian.{little_bytes}
 use Rattle.ig_count.specs.declared.counts.LabelCount.{LabelCount}
 use Rattle.ig_faces.specs.Records.{file_wrong, number_in, records_in}

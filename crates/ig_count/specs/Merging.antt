@@ -1,5 +1,5 @@
 -- Two tables that are merged item by item.
-use Rattle.std.specs.Prelude.{ℕ, ◌+◌, ◌≡◌, List, [], ◌∷◌, ◌++◌}
+use Rattle.std.specs.Prelude.{ℕ, ◌+◌, ◌≡◌, List, ◌++◌}
 use Rattle.ig_count.specs.declared.counts.LabelCount.{LabelCount}
 use Rattle.ig_count.specs.Tables.{IsFrom, tally}
 

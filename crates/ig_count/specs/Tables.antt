@@ -1,5 +1,5 @@
 -- Tables of counts: each label that occurs with its number of voxels, ascending by label.
-use Rattle.std.specs.Prelude.{ℕ, suc, ◌+◌, ◌≤◌, ◌<◌, ◌^◌, ◌≡◌, ◌==◌, if◌then◌else◌, List, [], ◌∷◌, sum_by, count_by, ◌⊎◌}
+use Rattle.std.specs.Prelude.{ℕ, suc, ◌+◌, ◌≤◌, ◌≡◌, ◌==◌, if◌then◌else◌, List, [], ◌∷◌, sum_by, count_by, ◌⊎◌}
 use Rattle.ig_count.specs.declared.counts.LabelCount.{LabelCount}
 
 -- the labels ascend, from `low` on, and each has a voxel

@@ -9,7 +9,7 @@ of-requires c =
     let order = IsNonDecreasingBy-from_sort_by_key label_of c.sort_unstable_by_key.new.self.items c.sort_unstable_by_key.ensures.sorted (λ a r q k. search rules) in
     let listed = c.in_ok-items.ensures in
     table-sorted c.in_ok-tallies.tallies.entries c.in_ok-items.items.items c.sort_unstable_by_key.new.self.items listed.items c.sort_unstable_by_key.ensures.permutation
-        order listed.unique listed.found c.in_ok-tallies.ensures.some
+    order listed.unique listed.found c.in_ok-tallies.ensures.some
 
 pub returns : goal.returns
 returns c =
@@ -20,6 +20,6 @@ returns c =
           c.sort_unstable_by_key.ensures.permutation order listed.unique listed.found c.in_ok-tallies.ensures.some;
       each = λ label.
           tally-sorted c.in_ok-tallies.tallies.entries c.in_ok-items.items.items c.sort_unstable_by_key.new.self.items label listed.items
-              c.sort_unstable_by_key.ensures.permutation listed.unique
+          c.sort_unstable_by_key.ensures.permutation listed.unique
           ∙ c.in_ok-tallies.ensures.tallies label ∙ ap (λ labels. times labels label) c.labels.ensures.labels;
     })

@@ -1,5 +1,5 @@
 use Rattle.std.proofs.Common.{◌≡◌, ap, ◌∙◌, sym, subst, drop, None}
-use Rattle.ig_faces.specs.Records.{file_wrong, number_in, records_in}
+use Rattle.ig_faces.specs.Records.{file_wrong, records_in}
 use Rattle.ig_count.specs.CountsFile.{AreFew, count_in, count_wrong, counts_text, counts_wrong}
 use Rattle.ig_count.proofs.FileLaws.{right-few, right-size, right-table, right-whole, text-whole}
 use Rattle.ig_count.proofs.file.read_counts.Goals as goal

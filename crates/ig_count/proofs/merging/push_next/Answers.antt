@@ -1,4 +1,4 @@
-use Rattle.std.proofs.Common.{arith, get_or, ◌<◌, ◌^◌, ◌+◌, ◌≡◌}
+use Rattle.std.proofs.Common.{arith, get_or, ◌≡◌}
 use Rattle.ig_count.specs.declared.counts.LabelCount.{LabelCount}
 use Rattle.ig_count.proofs.MergeSteps.{both-fit}
 use Rattle.ig_count.proofs.merging.push_next.Goals as goal
