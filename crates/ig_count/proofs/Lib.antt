@@ -2,3 +2,4 @@ pub mod EntryLaws
 pub mod MergeSteps
 pub mod FileLaws
 pub mod TableLaws
+pub mod SortedRuns

@@ -21,5 +21,5 @@ returns c =
       each = λ label.
           tally-sorted c.in_ok-tallies.tallies.entries c.in_ok-items.items.items c.sort_unstable_by_key.new.self.items label listed.items
           c.sort_unstable_by_key.ensures.permutation listed.unique
-          ∙ c.in_ok-tallies.ensures.tallies label ∙ ap (λ labels. times labels label) c.labels.ensures.labels;
+          ∙ c.in_ok-tallies.ensures.tallies label ∙ ap (λ labels. times labels label) c.labels-2.ensures.labels;
     })
