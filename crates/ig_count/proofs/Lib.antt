@@ -1,0 +1,5 @@
+pub mod EntryLaws
+pub mod MergeSteps
+pub mod FileLaws
+pub mod TableLaws
+pub mod SortedRuns

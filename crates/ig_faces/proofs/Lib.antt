@@ -1,0 +1,11 @@
+pub mod RecordLaws
+pub mod RecordSteps
+pub mod NumberLaws
+pub mod CountedLaws
+pub mod PartLaws
+pub mod LinkLaws
+pub mod TableLaws
+pub mod PlaneLaws
+pub mod FaceLaws
+pub mod Linked
+pub mod TestedLaws
