@@ -2,7 +2,7 @@
 ghost use Rattle.std.specs.Prelude.{◌≡◌, ◌≤◌, ◌*◌, ◌^◌, IfOk, IfSome, IsSome, IsTrue};
 ghost use Rattle.ig_space.specs.Geometry.{count, is_wide, padded, padded_to};
 
-use crate::numbers::{number, point};
+use crate::numbers::{number, point, small};
 use crate::{Told, World};
 use ig_cseg::{CsegFault, EncodeError, decode, encode};
 use ig_space::{Bytes, Point, RawError, TryClone, Volume, Width, raw_decode, raw_encode};
@@ -96,6 +96,27 @@ pub(crate) fn say_labels(alloc: Global, told: &mut Told, labels: &[u64]) -> Resu
         line.push_str(format!(in alloc; "{label}")?.as_str())?;
     }
     told.say(line.as_str())
+}
+
+/// The same for numbers of 32 bits.
+pub(crate) fn say_small(alloc: Global, told: &mut Told, numbers: &[u32]) -> Result<(), AllocError> {
+    let labels: Vec<u64> = numbers
+        .iter()
+        .map(|number| u64::from(*number))
+        .collect(alloc)?;
+    say_labels(alloc, told, labels.as_slice())
+}
+
+/// The numbers of 32 bits that words write; none where one is no such number.
+pub(crate) fn small_of(alloc: Global, words: &[&str]) -> Result<Option<Vec<u32>>, AllocError> {
+    let mut numbers = Vec::new(alloc);
+    for word in words {
+        match small(word) {
+            Some(number) => numbers.push(number)?,
+            None => return Ok(None),
+        }
+    }
+    Ok(Some(numbers))
 }
 
 /// The numbers that words write; none where one is no number.

@@ -1,11 +1,10 @@
-//! What a transcript plays over memory: calls of the program, workers by hand, readers by themselves, and the chunks of small
-//! layers. Each takes words and gives texts. Nothing here has a clause, so that the program above reads none of the contracts
-//! below; what is expected stands in the transcripts.
+//! What a transcript plays below the command line, over memory: its files, clock and faults; readers and other functions by
+//! themselves; and the chunks of small layers. Each takes words and gives texts. Nothing public here has a clause, so that the crates
+//! above read none of the contracts below; what is expected stands in the transcripts.
 #![tactic(auto)]
 
-mod calling;
 mod codecs;
-mod hand;
+mod globals;
 mod infos;
 mod layer;
 mod mips;
@@ -19,12 +18,8 @@ mod store;
 mod told;
 mod world;
 
-pub use calling::call;
-pub use hand::Hand;
-pub use ig_space::Path;
-pub use ig_store::FileMap;
 pub use layer::{chunks_with, short_info};
 pub use numbers::{bytes_of_hex, bytes_of_words, number};
 pub use reader::ask;
-pub use told::Told;
+pub use told::{Told, steps_text, text_of};
 pub use world::World;

@@ -1,8 +1,10 @@
 //! The mips of one box by themselves.
+ghost use Rattle.std.specs.Prelude.{◌≤◌};
+
 use crate::Told;
-use crate::codecs::{labels_of, say_labels, small_volume};
-use crate::numbers::{point, small};
+use crate::codecs::{say_labels, small_volume};
 use ig_mode::{mips, mode_row, mode4};
+use ig_space::{Point, Volume};
 use std::alloc::{AllocError, Global};
 
 /// `mode4 A B C D`.
@@ -29,29 +31,30 @@ pub(crate) fn ask_row(alloc: Global, labels: &[u64]) -> Result<Option<Told>, All
     Ok(Some(told))
 }
 
-/// `mips SIZE LEVELS LABEL..`: the labels of each level in a line.
+/// The labels of each level in a line.
+fn mips_told(alloc: Global, volume: &Volume, levels: u32) -> Result<Told, AllocError>
+    requires some { 1 ≤ levels }
+    requires few { levels ≤ 5 }
+{
+    let mut told = Told::of(alloc, "halved")?;
+    for level in mips(alloc, volume, levels)?.as_slice() {
+        say_labels(alloc, &mut told, level.labels())?;
+    }
+    Ok(told)
+}
+
+/// `mips SIZE LEVELS LABEL..`.
 pub(crate) fn ask_mips(
     alloc: Global,
-    size: &str,
-    levels: &str,
-    labels: &[&str],
+    size: Point,
+    levels: u32,
+    labels: &[u64],
 ) -> Result<Option<Told>, AllocError> {
-    let (Some(size), Some(levels), Some(labels)) = (
-        point(size),
-        small(levels),
-        labels_of(alloc, labels)?,
-    ) else {
-        return Ok(None);
-    };
-    let Some(volume) = small_volume(alloc, size, labels.as_slice())? else {
+    let Some(volume) = small_volume(alloc, size, labels)? else {
         return Ok(None);
     };
     if levels < 1 || levels > 5 {
         return Ok(None);
     }
-    let mut told = Told::of(alloc, "halved")?;
-    for level in mips(alloc, &volume, levels)?.as_slice() {
-        say_labels(alloc, &mut told, level.labels())?;
-    }
-    Ok(Some(told))
+    Ok(Some(mips_told(alloc, &volume, levels)?))
 }

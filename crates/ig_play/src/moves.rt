@@ -3,12 +3,11 @@ ghost use Rattle.std.specs.Prelude.{◌≡◌, ◌≤◌, length, true};
 ghost use Rattle.ig_defs.specs.QueueNames.{queue_fits};
 
 use crate::names::queue_text;
-use crate::told::steps_text;
+use crate::store::{Memory, closed, opened};
 use crate::{Told, World};
 use ig_queue::{Closed, Lease, QueueName, bury, complete, lease, parse_queue_name};
 use ig_space::Path;
-use ig_store::{MemStore, StoreError};
-use ig_task::{Pipeline, Role};
+use ig_store::StoreError;
 use std::alloc::{AllocError, Global};
 
 /// What a closing move answers.
@@ -34,7 +33,7 @@ fn lease_text(alloc: Global, given: Result<Lease, StoreError>) -> Result<String,
 /// Makes the move that the word names; none where it names none, or may not be made.
 fn answer(
     alloc: Global,
-    store: &mut MemStore<Pipeline>,
+    store: &mut Memory,
     queue: &Path,
     word: &str,
     name: QueueName,
@@ -72,19 +71,8 @@ pub(crate) fn ask_move(
     if queue.len() > 100 {
         return Ok(None);
     }
-    let rule = Pipeline {
-        queue: None,
-        role: Role::Worker,
-    };
-    let (files, fails) = (world.take_files(), world.take_fails());
-    let mut store = MemStore::new(alloc, rule, files, fails)?;
+    let mut store = opened(world)?;
     let answer = answer(alloc, &mut store, &queue, word, name, world.second)?;
-    let steps = steps_text(alloc, store.steps())?;
-    world.files = store.into_files();
-    let Some(answer) = answer else {
-        return Ok(None);
-    };
-    let mut told = Told::new(alloc, answer);
-    told.steps = steps;
-    Ok(Some(told))
+    let told = answer.map(|answer| Told::new(alloc, answer));
+    closed(world, store, told)
 }

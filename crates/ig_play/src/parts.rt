@@ -1,6 +1,6 @@
 //! The parts of one box by themselves.
 use crate::Told;
-use crate::codecs::{say_labels, small_volume};
+use crate::codecs::{say_small, small_volume};
 use ig_label::{Labels, label, runs_of};
 use ig_space::{Point, TryClone};
 use std::alloc::{AllocError, Global};
@@ -25,13 +25,7 @@ pub(crate) fn ask_runs(
 /// The part of each voxel in one line, and then the first voxel and the label of each part.
 fn parts_told(alloc: Global, labels: &Labels) -> Result<Told, AllocError> {
     let mut told = Told::of(alloc, "labelled")?;
-    let local: Vec<u64> = labels
-        .local
-        .as_slice()
-        .iter()
-        .map(|part| u64::from(*part))
-        .collect(alloc)?;
-    say_labels(alloc, &mut told, local.as_slice())?;
+    say_small(alloc, &mut told, labels.local.as_slice())?;
     for (first, value) in labels
         .firsts
         .as_slice()

@@ -1,6 +1,7 @@
 //! Calls of one function below by itself. Each group of functions has one here that knows their names, and gives nothing where the
 //! name is another, or a word is out of form.
 use crate::codecs::{ask_decode, ask_encode, labels_of, read_form};
+use crate::globals::{ask_number, ask_parts as ask_whole, ask_total, ask_walk};
 use crate::infos::{ask_dest, ask_read, ask_write};
 use crate::mips::{ask_mips, ask_mode, ask_row};
 use crate::moves::ask_move;
@@ -168,6 +169,34 @@ fn ask_modes(alloc: Global, word: &str, labels: &[&str]) -> Answer {
     }
 }
 
+/// `mips SIZE LEVELS LABEL..`.
+fn ask_mips_of(alloc: Global, size: &str, levels: &str, labels: &[&str]) -> Answer {
+    let (Some(size), Some(levels)) = (point(size), small(levels)) else {
+        return Ok(None);
+    };
+    match labels_of(alloc, labels)? {
+        Some(labels) => ask_mips(alloc, size, levels, labels.as_slice()),
+        None => Ok(None),
+    }
+}
+
+/// The parts of a whole volume.
+fn ask_global(alloc: Global, word: &str, rest: &[&str]) -> Answer {
+    if word == "total" {
+        return ask_total(alloc, rest);
+    }
+    if word == "number" {
+        return ask_number(alloc, rest);
+    }
+    if word == "number_parts" {
+        return ask_whole(alloc, rest);
+    }
+    match rest {
+        [nodes, links @ ..] if word == "walk" => ask_walk(alloc, nodes, links),
+        _ => Ok(None),
+    }
+}
+
 /// What takes a list of words.
 fn ask_list(world: &World, word: &str, rest: &[&str]) -> Answer {
     if word == "candidates" {
@@ -181,7 +210,7 @@ fn ask_list(world: &World, word: &str, rest: &[&str]) -> Answer {
             ask_parts(world.alloc, word, size, labels)
         }
         [size, levels, labels @ ..] if word == "mips" => {
-            ask_mips(world.alloc, size, levels, labels)
+            ask_mips_of(world.alloc, size, levels, labels)
         }
         _ => Ok(None),
     }
@@ -204,6 +233,10 @@ fn ask_other(world: &mut World, word: &str, rest: &[&str]) -> Answer {
         return Ok(told);
     }
     let told = ask_codec(world, word, rest)?;
+    if told.is_some() {
+        return Ok(told);
+    }
+    let told = ask_global(world.alloc, word, rest)?;
     if told.is_some() {
         return Ok(told);
     }

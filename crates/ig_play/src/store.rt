@@ -2,11 +2,19 @@
 use crate::told::{steps_text, text_of};
 use crate::{Told, World};
 use ig_space::{Path, TryClone};
-use ig_store::{MemStore, Store, StoreError};
-use ig_task::{Pipeline, Role};
+use ig_store::{MemStore, Rule, Store, StoreError};
 use std::alloc::{AllocError, Global};
 
-type Memory = MemStore<Pipeline>;
+/// The rule that allows all.
+#[derive(Drop)]
+pub(crate) struct Free;
+
+impl Rule for Free {
+    ghost allows = { λ free own files act. Unit {0} };
+}
+
+/// A store in memory.
+pub(crate) type Memory = MemStore<Free>;
 
 fn refusal(error: StoreError) -> &'static str {
     match error {
@@ -64,17 +72,13 @@ fn put(alloc: Global, store: &mut Memory, path: &Path, text: &str) -> Result<Tol
 }
 
 /// A store in memory over the world's files, in which the next call has the world's faults.
-fn opened(world: &mut World) -> Result<Memory, AllocError> {
-    let rule = Pipeline {
-        queue: None,
-        role: Role::Local,
-    };
+pub(crate) fn opened(world: &mut World) -> Result<Memory, AllocError> {
     let (files, fails) = (world.take_files(), world.take_fails());
-    MemStore::new(world.alloc, rule, files, fails)
+    MemStore::new(world.alloc, Free, files, fails)
 }
 
 /// What was told, with the steps of the call; the files are the world's again.
-fn closed(
+pub(crate) fn closed(
     world: &mut World,
     store: Memory,
     told: Option<Told>,

@@ -1,5 +1,5 @@
-use ig_space::TryClone;
-use ig_store::{Act, Step, Steps};
+use ig_space::{Path, TryClone};
+use ig_store::{Act, Steps};
 use std::alloc::{AllocError, Global};
 
 /// What a call told: its answer, what it wrote on both outputs, and its own steps, each in a line.
@@ -13,12 +13,12 @@ pub struct Told {
 
 impl Told {
     /// An answer alone.
-    pub(crate) fn of(alloc: Global, answer: &str) -> Result<Told, AllocError> {
+    pub fn of(alloc: Global, answer: &str) -> Result<Told, AllocError> {
         Ok(Told::new(alloc, String::from_str(alloc, answer)?))
     }
 
     /// The same.
-    pub(crate) fn new(alloc: Global, answer: String) -> Told {
+    pub fn new(alloc: Global, answer: String) -> Told {
         Told {
             answer,
             out: String::new(alloc),
@@ -35,7 +35,7 @@ impl Told {
 }
 
 /// The bytes as a text; each is an ASCII character.
-pub(crate) fn text_of(alloc: Global, bytes: &[u8]) -> Result<String, AllocError> {
+pub fn text_of(alloc: Global, bytes: &[u8]) -> Result<String, AllocError> {
     let mut text = String::new(alloc);
     for byte in bytes {
         text.push(*byte as char)?;
@@ -43,22 +43,35 @@ pub(crate) fn text_of(alloc: Global, bytes: &[u8]) -> Result<String, AllocError>
     Ok(text)
 }
 
-/// A step with its paths.
-fn step_text(alloc: Global, step: &Step) -> Result<String, AllocError> {
-    match &step.act {
-        Act::Read(path) => format!(in alloc; "read {}\n", path.as_str()),
-        Act::List(dir, _) => format!(in alloc; "list {}\n", dir.as_str()),
-        Act::Put(path, _) => format!(in alloc; "put {}\n", path.as_str()),
-        Act::Move(from, to) => format!(in alloc; "move {} {}\n", from.as_str(), to.as_str()),
-        Act::Remove(path) => format!(in alloc; "remove {}\n", path.as_str()),
+/// The word of an act, its path, and the second one if there is one.
+fn words_of(act: &Act) -> (&'static str, &Path, Option<&Path>) {
+    match act {
+        Act::Read(path) => ("read", path, None),
+        Act::List(dir, _) => ("list", dir, None),
+        Act::Put(path, _) => ("put", path, None),
+        Act::Move(from, to) => ("move", from, Some(to)),
+        Act::Remove(path) => ("remove", path, None),
     }
 }
 
+/// Adds the line of an act.
+fn add_act(text: &mut String, act: &Act) -> Result<(), AllocError> {
+    let (word, path, second) = words_of(act);
+    text.push_str(word)?;
+    text.push(' ')?;
+    text.push_str(path.as_str())?;
+    if let Some(second) = second {
+        text.push(' ')?;
+        text.push_str(second.as_str())?;
+    }
+    text.push('\n')
+}
+
 /// The steps, each in a line.
-pub(crate) fn steps_text(alloc: Global, steps: &Steps) -> Result<String, AllocError> {
+pub fn steps_text(alloc: Global, steps: &Steps) -> Result<String, AllocError> {
     let mut text = String::new(alloc);
     for step in steps.copy()?.as_slice() {
-        text.push_str(step_text(alloc, step)?.as_str())?;
+        add_act(&mut text, &step.act)?;
     }
     Ok(text)
 }

@@ -34,17 +34,17 @@ impl World {
     }
 
     /// The faults of the next call, which has them alone.
-    pub(crate) fn take_fails(&mut self) -> Fails {
+    pub fn take_fails(&mut self) -> Fails {
         mem::replace(&mut self.fails, List::new(self.alloc))
     }
 
     /// The files, which a store holds meanwhile.
-    pub(crate) fn take_files(&mut self) -> FileMap {
+    pub fn take_files(&mut self) -> FileMap {
         mem::replace(&mut self.files, FileMap::new(self.alloc))
     }
 
     /// How many bytes the next output takes.
-    pub(crate) fn take_room(&mut self) -> u64 {
+    pub fn take_room(&mut self) -> u64 {
         mem::replace(&mut self.takes, USUAL_ROOM)
     }
 

@@ -2,7 +2,8 @@
 use crate::fault::{Fault, compare, unreadable};
 use crate::player::{Named, Player};
 use crate::settings::{holds, number_of, split, words_of};
-use ig_play::{Hand, ask, call};
+use ig_play::ask;
+use ig_run::{Hand, call};
 use std::alloc::{AllocError, Global};
 use std::thread::Threads;
 

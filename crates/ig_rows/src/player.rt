@@ -1,4 +1,5 @@
-use ig_play::{Hand, Told, World};
+use ig_play::{Told, World};
+use ig_run::Hand;
 use std::alloc::Global;
 
 /// A worker with its name.

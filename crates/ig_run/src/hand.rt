@@ -2,9 +2,8 @@
 ghost use Rattle.std.specs.Prelude.{◌≡◌, ◌≤◌, IfOk};
 ghost use Rattle.ig_store.specs.Ticks.{capped};
 
-use crate::told::steps_text;
-use crate::{Told, World};
 use ig_cli::{end_line, line_of, read_plan};
+use ig_play::{Told, World, steps_text};
 use ig_space::{Path, TryClone};
 use ig_store::{MemClock, MemStore};
 use ig_task::{Pipeline, Role};
@@ -85,6 +84,18 @@ impl Hand {
         }
     }
 
+    /// Takes one step, and adds what it gave. Nothing is said here of what a step does, so that its caller reads none of its contract.
+    fn step<R: Threads + Sync>(
+        &mut self,
+        rt: &R,
+        alloc: Global,
+        store: &mut MemStore<Pipeline>,
+        told: &mut Told,
+    ) -> Result<(), AllocError> {
+        let given = self.worker.step(rt, store, &mut self.clock);
+        add(alloc, told, given)
+    }
+
     /// Takes so many steps, or fewer where it ends or says this line before. Once it has ended, one step gives its end again.
     pub fn steps<R: Threads + Sync>(
         &mut self,
@@ -103,8 +114,7 @@ impl Hand {
         let mut store = MemStore::new(alloc, rule, files, fails)?;
         let mut told = Told::of(alloc, "")?;
         for _ in 0..count {
-            let given = self.worker.step(rt, &mut store, &mut self.clock);
-            add(alloc, &mut told, given)?;
+            self.step(rt, alloc, &mut store, &mut told)?;
             if self.worker.ended() || (!till.is_empty() && told.out.as_str().ends_with(till)) {
                 break;
             }
