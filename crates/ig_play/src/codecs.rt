@@ -46,7 +46,7 @@ fn product(x: u64, y: u64, z: u64) -> Option<u64>
 }
 
 /// Whether a box of this size has at most so many voxels.
-fn has_few(size: Point, most: u64) -> bool
+pub(crate) fn has_few(size: Point, most: u64) -> bool
     ensures { IsTrue result → count size ≤ most }
 {
     match product(size.x, size.y, size.z) {

@@ -4,6 +4,7 @@
 #![tactic(auto)]
 
 mod codecs;
+mod files;
 mod globals;
 mod infos;
 mod layer;

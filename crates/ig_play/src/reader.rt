@@ -1,6 +1,7 @@
 //! Calls of one function below by itself. Each group of functions has one here that knows their names, and gives nothing where the
 //! name is another, or a word is out of form.
 use crate::codecs::{ask_decode, ask_encode, labels_of, read_form};
+use crate::files::{ask_count, ask_file};
 use crate::globals::{ask_number, ask_parts as ask_whole, ask_total, ask_walk};
 use crate::infos::{ask_dest, ask_read, ask_write};
 use crate::mips::{ask_mips, ask_mode, ask_row};
@@ -197,6 +198,22 @@ fn ask_global(alloc: Global, word: &str, rest: &[&str]) -> Answer {
     }
 }
 
+/// `count TO SIZE LABEL..`.
+fn ask_count_of(world: &mut World, to: &str, size: &str, labels: &[&str]) -> Answer {
+    match labels_of(world.alloc, labels)? {
+        Some(labels) => ask_count(world, to, size, labels.as_slice()),
+        None => Ok(None),
+    }
+}
+
+/// The files between passes.
+fn ask_passes(world: &mut World, word: &str, rest: &[&str]) -> Answer {
+    match rest {
+        [to, size, labels @ ..] if word == "count" => ask_count_of(world, to, size, labels),
+        _ => ask_file(world, word, rest),
+    }
+}
+
 /// What takes a list of words.
 fn ask_list(world: &World, word: &str, rest: &[&str]) -> Answer {
     if word == "candidates" {
@@ -237,6 +254,10 @@ fn ask_other(world: &mut World, word: &str, rest: &[&str]) -> Answer {
         return Ok(told);
     }
     let told = ask_global(world.alloc, word, rest)?;
+    if told.is_some() {
+        return Ok(told);
+    }
+    let told = ask_passes(world, word, rest)?;
     if told.is_some() {
         return Ok(told);
     }
