@@ -1,7 +1,7 @@
 use Rattle.std.proofs.Common.{◌≡◌, ◌<◌, ◌%◌, ◌^◌, ℕ, List, IfOk, string_bytes, ap, subst, ◌∙◌, arith}
 use Rattle.std.specs.Fmt.{styled_decimal}
 use Rattle.ig_defs.specs.QueueNames.{digits}
-use Rattle.ig_queue.proofs.Written.{written}
+use Rattle.ig_defs.specs.Padded.{written}
 use Rattle.ig_cli.proofs.Digits.{last_four}
 use Rattle.ig_cli.proofs.done.four_digits.Goals as goal
 
