@@ -1,5 +1,5 @@
 -- The log: opening files, and each step since. A prefix of it is a stop at that moment.
-use Rattle.std.specs.Prelude.{◌≡◌, ℕ, Bool, true, false, List, [], ◌∷◌, ◌++◌, Option, None, Some}
+use Rattle.std.specs.Prelude.{◌≡◌, ℕ, Bool, true, false, List, [], ◌∷◌, Option, None, Some}
 use Rattle.std.specs.FinMap as map
 use Rattle.ig_defs.specs.declared.step.Act.{Act}
 use Rattle.ig_defs.specs.declared.step.Act.TheVariants as act
@@ -49,17 +49,6 @@ ByOthers allows files (step ∷ steps) = (step.mine ≡ false) × allows false f
 abbrev pub AreAllowed : (Bool → Files → Act → Type 0) → Files → List Step → Type 0
 AreAllowed allows files [] = Unit {0}
 AreAllowed allows files (step ∷ steps) = allows step.mine files step.act × AreAllowed allows (after files step.act) steps
-
--- The log grew by steps of others, each allowed at its moment, and then by own acts. P says which, by the files
--- at first, the steps of others and the own acts.
-pub record Turn (allows : Bool → Files → Act → Type 0) (old new : Log) (P : Files → List Step → List Act → Type 0) : Type 0 where
-  pub others : List Step
-  pub acts : List Act
-  pub by_others : ByOthers allows (files_of old) others
-  pub opening : new.opening ≡ old.opening
-  pub grown : new.steps ≡ old.steps ++ (others ++ own_all acts)
-  pub files : files_of new ≡ replay (replay (files_of old) others) (own_all acts)
-  pub took : P (files_of old) others acts
 
 -- an act that changes no file
 abbrev pub IsQuiet : Act → Type 0

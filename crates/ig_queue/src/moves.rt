@@ -1,7 +1,8 @@
 //! The moves of a task's name: it is leased, done, or a dead letter.
 ghost use Rattle.std.specs.Prelude.{◌≡◌, ◌≤◌, ◌<◌, true, length, IfOk};
-ghost use Rattle.ig_defs.specs.Calls.{HasCause, TakesShift};
-ghost use Rattle.ig_defs.specs.Log.{Turn, files_of};
+ghost use Rattle.ig_defs.specs.Answers.{answer_by, Answered, Shifts, WasThere};
+ghost use Rattle.ig_defs.specs.Calls.{HasCause};
+ghost use Rattle.ig_defs.specs.Log.{files_of};
 ghost use Rattle.ig_defs.specs.QueueNames.{queue_fits, task_of};
 ghost use Rattle.ig_rule.specs.Facts.{Reader};
 ghost use Rattle.ig_rule.specs.QueueFiles.{Queued, Dead, Done, path_of};
@@ -58,7 +59,7 @@ pub fn lease<R: Rule, S: Store<R>>(
     ensures most { S.most store.new ≡ S.most store.old }
     ensures cause { HasCause (S.faults store.old) (S.faults store.new) result }
     ensures name { IfOk result (IsLeaseOf (leased_name now seconds name)) }
-    ensures turn { S.tells → Turn (R.allows (S.rule store.old)) (S.log store.old) (S.log store.new) (TakesShift (path_of queue.now (Queued name)) (path_of queue.now (Queued (leased_name now seconds name))) (lease_made result)) }
+    ensures turn { S.tells → Answered (R.allows (S.rule store.old)) (S.log store.old) (S.log store.new) (Shifts (path_of queue.now (Queued name)) (path_of queue.now (Queued (leased_name now seconds name)))) (answer_by WasThere (lease_made result)) }
     ensures legal { S.tells → (read : Reader) (role : Role) → OthersKeep (R.allows (S.rule store.old)) read role queue.now → Legal read queue.now (S.log store.old) → Legal read queue.now (S.log store.new) }
 {
     let given = leased(name, now, seconds);
@@ -83,7 +84,7 @@ pub fn complete<R: Rule, S: Store<R>>(
     ensures rule { S.rule store.new ≡ S.rule store.old }
     ensures most { S.most store.new ≡ S.most store.old }
     ensures cause { HasCause (S.faults store.old) (S.faults store.new) result }
-    ensures turn { S.tells → Turn (R.allows (S.rule store.old)) (S.log store.old) (S.log store.new) (TakesShift (path_of queue.now (Queued name)) (path_of queue.now (Done (task_of name))) (close_made result)) }
+    ensures turn { S.tells → Answered (R.allows (S.rule store.old)) (S.log store.old) (S.log store.new) (Shifts (path_of queue.now (Queued name)) (path_of queue.now (Done (task_of name)))) (answer_by WasThere (close_made result)) }
     ensures legal { S.tells → (read : Reader) (role : Role) → OthersKeep (R.allows (S.rule store.old)) read role queue.now → MayBeDoneBeside (R.allows (S.rule store.old)) read queue.now (files_of (S.log store.old)) (task_of name) → Legal read queue.now (S.log store.old) → Legal read queue.now (S.log store.new) }
 {
     let from = queued_path(alloc, queue, name)?;
@@ -107,7 +108,7 @@ pub fn bury<R: Rule, S: Store<R>>(
     ensures rule { S.rule store.new ≡ S.rule store.old }
     ensures most { S.most store.new ≡ S.most store.old }
     ensures cause { HasCause (S.faults store.old) (S.faults store.new) result }
-    ensures turn { S.tells → Turn (R.allows (S.rule store.old)) (S.log store.old) (S.log store.new) (TakesShift (path_of queue.now (Queued name)) (path_of queue.now (Dead (task_of name))) (close_made result)) }
+    ensures turn { S.tells → Answered (R.allows (S.rule store.old)) (S.log store.old) (S.log store.new) (Shifts (path_of queue.now (Queued name)) (path_of queue.now (Dead (task_of name)))) (answer_by WasThere (close_made result)) }
     ensures legal { S.tells → (read : Reader) (role : Role) → OthersKeep (R.allows (S.rule store.old)) read role queue.now → Legal read queue.now (S.log store.old) → Legal read queue.now (S.log store.new) }
 {
     let from = queued_path(alloc, queue, name)?;

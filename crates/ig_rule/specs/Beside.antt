@@ -5,7 +5,7 @@ use Rattle.ig_defs.specs.declared.step.Act.{Act}
 use Rattle.ig_defs.specs.declared.step.Act.TheVariants as act
 use Rattle.ig_defs.specs.declared.step.Step.{Step}
 use Rattle.ig_defs.specs.Files.{Files, file_at}
-use Rattle.ig_defs.specs.Log.{Log, Turn, after, replay, files_of, own_all, ByOthers, IsQuiet}
+use Rattle.ig_defs.specs.Log.{Log, after, replay, files_of, own_all, ByOthers, IsQuiet}
 use Rattle.ig_defs.specs.Puts.{file_at-other}
 use Rattle.ig_defs.specs.Replay.{replay-keeps, AreAllowed-append}
 use Rattle.ig_rule.specs.QueueFiles.{QueueFile, Record, named_task, IsApartFrom, Queue, queue_of}
@@ -91,11 +91,6 @@ pub others_then_own_legal : (read : Reader) (role : Role) (q : List ℕ) (old ne
 others_then_own_legal read role q old new others acts by opening grown own legal =
     legal_grown read q old new (others ++ own_all acts) legal opening grown
     (AreAllowed-append (λ mine given a. Allowed read q given a) (files_of old) others (own_all acts) (others_allowed read role q (files_of old) others by) own)
-
--- So a turn of a store under the rule leaves the log legal, where its own acts are allowed.
-pub turn_legal : (read : Reader) (role : Role) (q : List ℕ) (old new : Log) (P : Files → List Step → List Act → Type 0) → (t : Turn (Allows read role (Some q)) old new P)
-    → AreAllowedSteps read q (replay (files_of old) t.others) (own_all t.acts) → Legal read q old → Legal read q new
-turn_legal read role q old new P t = others_then_own_legal read role q old new t.others t.acts t.by_others t.opening t.grown
 
 -- ---- beside a maker
 

@@ -6,13 +6,13 @@ use Rattle.ig_defs.specs.declared.step.Act.TheVariants as act
 use Rattle.ig_defs.specs.declared.step.Step.{Step}
 use Rattle.ig_defs.specs.declared.error.StoreError.{StoreError}
 use Rattle.ig_defs.specs.declared.error.StoreError.TheVariants.{Failed, Memory}
-use Rattle.ig_defs.specs.Calls.{TakesRead, TakesHas, TakesNames, TakesPut}
+use Rattle.ig_defs.specs.Answers.{Answer, answer_by, Answered, Found, Lists, Names, put_answer, Puts, Reads, Sees, WasThere}
 use Rattle.ig_defs.specs.Files.{Files, file_at}
-use Rattle.ig_defs.specs.Log.{Log, Turn, ByOthers, IsQuiet, OthersOnlyRead, after, files_of, own_all, replay}
+use Rattle.ig_defs.specs.Log.{Log, ByOthers, IsQuiet, OthersOnlyRead, after, files_of, own_all, replay}
 use Rattle.ig_defs.specs.Own.{Moment, own_moments, with_moment}
-use Rattle.ig_defs.specs.Replay.{after-quiet, replay-append}
-use Rattle.ig_defs.specs.TurnLaws.{files_then}
-use Rattle.ig_defs.specs.Turns.{Acted, Grew, Idled}
+use Rattle.ig_defs.specs.Replay.{after-quiet}
+use Rattle.ig_defs.specs.TurnLaws.{acted_as, files_after, files_later, listed_of, not_made, put_acted}
+use Rattle.ig_defs.specs.Turns.{Acted, Grew, Idled, IsPrefix}
 use Rattle.ig_rule.specs.Facts.{Reader}
 use Rattle.ig_rule.specs.Rule.{Allowed}
 use Rattle.ig_rule.specs.Sound.{AreAllowedSteps, Legal}
@@ -28,7 +28,7 @@ with_moment-append : (mine : Bool) (m : Moment) (ms rest : List Moment) → with
 with_moment-append true m ms rest = refl
 with_moment-append false m ms rest = refl
 
-own_moments-append : (files : Files) (first then : List Step) → own_moments files (first ++ then) ≡ own_moments files first ++ own_moments (replay files first) then
+pub own_moments-append : (files : Files) (first then : List Step) → own_moments files (first ++ then) ≡ own_moments files first ++ own_moments (replay files first) then
 own_moments-append files [] then = refl
 own_moments-append files (step ∷ first) then =
     ap (with_moment step.mine (record { files = files; act = step.act })) (own_moments-append (after files step.act) first then)
@@ -39,13 +39,17 @@ OthersAllowed-append : (allows : Bool → Files → Act → Type 0) (files : Fil
 OthersAllowed-append allows files [] then a b = b
 OthersAllowed-append allows files (step ∷ first) then a b = (a.0, OthersAllowed-append allows (after files step.act) first then a.1 b)
 
+-- the log grew
+abbrev pub went_prefix : {allows : Bool → Files → Act → Type 0} {old new : Log} {ms : List Moment} (w : Went allows old new ms) → IsPrefix old new
+went_prefix w = record { later = w.steps; opening = w.opening; grown = w.grown }
+
 -- nothing was done
 pub went_nothing : (allows : Bool → Files → Act → Type 0) (log : Log) → Went allows log log []
 went_nothing allows log = record { steps = []; opening = refl; grown = sym (append-nil log.steps); others = tt; moments = refl }
 
 -- the files now are those that the steps left
 pub files_went : (allows : Bool → Files → Act → Type 0) (old new : Log) (ms : List Moment) (w : Went allows old new ms) → files_of new ≡ replay (files_of old) w.steps
-files_went allows old new ms w = ap (λ files. replay files new.steps) w.opening ∙ ap (replay old.opening) w.grown ∙ replay-append old.opening old.steps w.steps
+files_went allows old new ms w = files_later (went_prefix w)
 
 pub went_then : (allows : Bool → Files → Act → Type 0) (old mid new : Log) (first then : List Moment) → Went allows old mid first → Went allows mid new then → Went allows old new (first ++ then)
 went_then allows old mid new first then a b =
@@ -65,7 +69,7 @@ went_then allows old mid new first then a b =
 pub went_then_nothing : (allows : Bool → Files → Act → Type 0) (old mid new : Log) (ms : List Moment) → Went allows old mid ms → Went allows mid new [] → Went allows old new ms
 went_then_nothing allows old mid new ms a b = subst (Went allows old new) (append-nil ms) (went_then allows old mid new ms [] a b)
 
--- ---- a turn on a store
+-- ---- one call
 
 by_others_allowed : (allows : Bool → Files → Act → Type 0) (files : Files) (others : List Step) → ByOthers allows files others → OthersAllowed allows files others
 by_others_allowed allows files [] by = tt
@@ -95,38 +99,28 @@ went_of {allows = allows} {old = old} {acts = acts} t = record {
   moments = own_moments-others allows (files_of old) t.others (own_all acts) t.by;
 }
 
-abbrev pub grew_of : {allows : Bool → Files → Act → Type 0} {old new : Log} {P : Files → List Step → List Act → Type 0} (t : Turn allows old new P) (acts : List Act) → t.acts ≡ acts → Grew allows old new acts
-grew_of {old = old} t acts are =
-    record { others = t.others; by = t.by_others; opening = t.opening; grown = t.grown ∙ ap (λ acts. old.steps ++ (t.others ++ own_all acts)) are }
+-- ---- by the result of a call
+nothing_else : (answer : Answer) → ⊥ → ⊥
+nothing_else answer no_way = no_way
 
-pub turn_read : (allows : Bool → Files → Act → Type 0) (old new : Log) (path : List ℕ) (result : Result (Option (List ℕ)) StoreError)
-    → Turn allows old new (TakesRead path result) → WentRead allows old new path result
-turn_read allows old new path (Ok found) t =
-    let acted : Acted allows old new (act.Read path) = grew_of t (act.Read path ∷ []) t.took.0 in
-    (acted, t.took.1 ∙ ap (λ files. file_at files path) (sym (files_then acted)))
-turn_read allows old new path (Err e) t = grew_of t [] t.took
+module _ (allows : Bool → Files → Act → Type 0) (old new : Log) where
+  pub went_read : (path : List ℕ) (result : Result (Option (List ℕ)) StoreError) → Answered allows old new (Reads path) (answer_by Found result) → WentRead allows old new path result
+  went_read path (Ok found) t = (acted_as t.takes.0 t.acted, t.takes.1 ∙ ap (λ files. file_at files path) (sym (files_after t.takes.0 t.acted)))
+  went_read path (Err e) t = not_made (Reads path) nothing_else e t
 
-pub turn_has : (allows : Bool → Files → Act → Type 0) (old new : Log) (path : List ℕ) (result : Result Bool StoreError)
-    → Turn allows old new (TakesHas path result) → WentHas allows old new path result
-turn_has allows old new path (Ok found) t =
-    let acted : Acted allows old new (act.Read path) = grew_of t (act.Read path ∷ []) t.took.0 in
-    (acted, t.took.1 ∙ ap (λ files. is_some (file_at files path)) (sym (files_then acted)))
-turn_has allows old new path (Err e) t = grew_of t [] t.took
+  pub went_has : (path : List ℕ) (result : Result Bool StoreError) → Answered allows old new (Sees path) (answer_by WasThere result) → WentHas allows old new path result
+  went_has path (Ok found) t = (acted_as t.takes.0 t.acted, t.takes.1 ∙ ap (λ files. is_some (file_at files path)) (sym (files_after t.takes.0 t.acted)))
+  went_has path (Err e) t = not_made (Sees path) nothing_else e t
 
-pub turn_list : (allows : Bool → Files → Act → Type 0) (old new : Log) (dir : List ℕ) (result : Result (List (List ℕ)) StoreError)
-    → Turn allows old new (TakesNames dir result) → WentList allows old new dir result
-turn_list allows old new dir (Ok given) t = record { acted = grew_of t (act.List dir given ∷ []) t.took.0; names = t.took.1 }
-turn_list allows old new dir (Err e) t = grew_of t [] t.took
+  pub went_list : (dir : List ℕ) (result : Result (List (List ℕ)) StoreError) → Answered allows old new (Lists dir) (answer_by Names result) → WentList allows old new dir result
+  went_list dir (Ok given) t = listed_of t
+  went_list dir (Err e) t = not_made (Lists dir) nothing_else e t
 
-pub turn_put : (allows : Bool → Files → Act → Type 0) (old new : Log) (path bytes : List ℕ) (result : Result (Unit {0}) StoreError)
-    → Turn allows old new (TakesPut path bytes result) → WentPut allows old new path bytes result
-turn_put allows old new path bytes (Ok done) t = grew_of t (act.Put path bytes ∷ []) t.took
-turn_put allows old new path bytes (Err Failed) t = by_acts t.took
-  where
-    by_acts : (t.acts ≡ []) ⊎ (t.acts ≡ act.Put path bytes ∷ []) → Idled allows old new ⊎ Acted allows old new (act.Put path bytes)
-    by_acts (inl none) = inl (grew_of t [] none)
-    by_acts (inr one) = inr (grew_of t (act.Put path bytes ∷ []) one)
-turn_put allows old new path bytes (Err Memory) t = grew_of t [] t.took
+  pub went_put : (path bytes : List ℕ) (result : Result (Unit {0}) StoreError) → Answered allows old new (Puts path bytes) (answer_by put_answer result) → WentPut allows old new path bytes result
+  went_put path bytes (Ok done) t = acted_as t.takes t.acted
+  went_put path bytes (Err Failed) (inl t) = inl t
+  went_put path bytes (Err Failed) (inr made) = inr (put_acted made.answer made.answered)
+  went_put path bytes (Err Memory) t = t
 
 -- ---- what each own step does
 

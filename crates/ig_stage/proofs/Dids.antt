@@ -1,24 +1,15 @@
 -- What two parts of a call did, one after the other.
-use Rattle.std.proofs.Common.{◌≡◌, Bool, true, false, List, [], ◌∷◌, ◌++◌, refl, ap, sym, ◌∙◌, append_assoc, append-nil}
+use Rattle.std.proofs.Common.{◌≡◌, List, [], ◌∷◌, ◌++◌, refl, ap, sym, ◌∙◌, append_assoc, append-nil}
 use Rattle.ig_defs.specs.declared.step.Act.{Act}
 use Rattle.ig_defs.specs.declared.step.Act.TheVariants as act
 use Rattle.ig_defs.specs.declared.step.Step.{Step}
 use Rattle.ig_defs.specs.Files.{Files}
 use Rattle.ig_defs.specs.Log.{Log, after, files_of, replay}
-use Rattle.ig_defs.specs.Own.{Moment, own_moments, with_moment}
+use Rattle.ig_defs.specs.Own.{own_moments}
 use Rattle.ig_defs.specs.Replay.{AreQuiet, replay-append}
+use Rattle.ig_rule.specs.WentOn.{own_moments-append}
 use Rattle.ig_stage.specs.Did.{Did, after_all, moments_from}
 use Rattle.ig_stage.specs.Making.{ListsTruly}
-
-with_moment-append : (mine : Bool) (m : Moment) (ms rest : List Moment) → with_moment mine m (ms ++ rest) ≡ with_moment mine m ms ++ rest
-with_moment-append true m ms rest = refl
-with_moment-append false m ms rest = refl
-
-own_moments-append : (files : Files) (first then : List Step) → own_moments files (first ++ then) ≡ own_moments files first ++ own_moments (replay files first) then
-own_moments-append files [] then = refl
-own_moments-append files (step ∷ first) then =
-    ap (with_moment step.mine (record { files = files; act = step.act })) (own_moments-append (after files step.act) first then)
-    ∙ with_moment-append step.mine (record { files = files; act = step.act }) (own_moments (after files step.act) first) (own_moments (replay (after files step.act) first) then)
 
 pub moments_from-append : (files : Files) (first then : List Act) → moments_from files (first ++ then) ≡ moments_from files first ++ moments_from (after_all files first) then
 moments_from-append files [] then = refl

@@ -1,22 +1,22 @@
 -- Where others only look, a part of a call is as that of a process by itself.
-use Rattle.std.proofs.Common.{◌≡◌, ℕ, Bool, List, [], ◌∷◌, ◌++◌, append_assoc, length, drop, All, Result, Ok, Err, IfOk, ap, subst, sym, ◌∙◌, true≢false}
-use Rattle.std.proofs.Math.Seq.{drop-append_seam}
+use Rattle.std.proofs.Common.{◌≡◌, ℕ, Bool, List, [], ◌∷◌, ◌++◌, All, Result, Ok, Err, IfOk, ap, subst, sym, ◌∙◌, true≢false}
 use Rattle.ig_defs.specs.declared.step.Act.{Act}
+use Rattle.ig_defs.specs.declared.step.Act.TheVariants as act
 use Rattle.ig_defs.specs.declared.step.Step.{Step}
 use Rattle.ig_defs.specs.declared.error.StoreError.{StoreError}
-use Rattle.ig_defs.specs.Calls.{TakesNames}
 use Rattle.ig_defs.specs.Files.{Files}
-use Rattle.ig_defs.specs.Log.{Log, Turn, ByOthers, OthersOnlyRead, after, files_of, own_all, replay}
+use Rattle.ig_defs.specs.Log.{Log, ByOthers, OthersOnlyRead, after, files_of, own_all, replay}
 use Rattle.ig_defs.specs.Names.{Stands, StandsThroughout}
 use Rattle.ig_defs.specs.Own.{Moment, steps_since}
 use Rattle.ig_defs.specs.Replay.{replay-others}
-use Rattle.ig_rule.specs.Went.{OthersAllowed, Went}
-use Rattle.ig_rule.specs.WentOn.{EachMoment, LooksOnly, local_moments}
+use Rattle.ig_defs.specs.TurnLaws.{files_then, prefix_of, prefix_then, since_is as later_since}
+use Rattle.ig_rule.specs.Went.{OthersAllowed, Went, WentList}
+use Rattle.ig_rule.specs.WentOn.{EachMoment, LooksOnly, local_moments, went_prefix}
 use Rattle.ig_task.specs.Pipeline.{is_allowed}
 use Rattle.ig_stage.specs.CanMake.{AllOwn}
 use Rattle.ig_stage.specs.Looking.{AreNames, OthersLook}
 use Rattle.ig_stage.specs.Pipeline.{local_rule}
-use Rattle.ig_stage.proofs.Turns.{kept, stand_now}
+use Rattle.ig_stage.proofs.Turns.{stand_now}
 
 only_read : OthersOnlyRead (is_allowed local_rule)
 only_read files a quiet = quiet
@@ -47,14 +47,11 @@ look_locally allows reads files (step ∷ steps) others = (λ mine. reads files 
 -- ---- parts of a call
 module _ (allows : Bool → Files → Act → Type 0) where
   since_is : (old new : Log) (ms : List Moment) (w : Went allows old new ms) → steps_since old new ≡ w.steps
-  since_is old new ms w = ap (drop (length old.steps)) w.grown ∙ drop-append_seam old.steps w.steps
+  since_is old new ms w = later_since (went_prefix w)
 
   since_then : (old mid new : Log) (first then : List Moment) (a : Went allows old mid first) (b : Went allows mid new then) → steps_since old new ≡ steps_since old mid ++ steps_since mid new
   since_then old mid new first then a b =
-      ap (drop (length old.steps)) (b.grown ∙ ap (λ steps. steps ++ b.steps) a.grown ∙ append_assoc old.steps a.steps b.steps)
-      ∙ drop-append_seam old.steps (a.steps ++ b.steps)
-      ∙ ap (λ steps. steps ++ b.steps) (sym (since_is old mid first a))
-      ∙ ap (λ steps. steps_since old mid ++ steps) (sym (since_is mid new then b))
+      later_since (prefix_then (went_prefix a) (went_prefix b)) ∙ ap (λ steps. steps ++ b.steps) (sym (since_is old mid first a)) ∙ ap (λ steps. steps_since old mid ++ steps) (sym (since_is mid new then b))
 
   pub look_in_parts : (old mid new : Log) (first then : List Moment) → Went allows old mid first → Went allows mid new then
       → OthersLook (steps_since old new) → OthersLook (steps_since old mid) × OthersLook (steps_since mid new)
@@ -79,19 +76,6 @@ module _ (allows : Bool → Files → Act → Type 0) where
 
   -- ---- a listing
 
-  turn_locally : (old new : Log) (P : Files → List Step → List Act → Type 0) → OthersLook (steps_since old new) → Turn allows old new P → Turn (is_allowed local_rule) old new P
-  turn_locally old new P look t =
-      let since : steps_since old new ≡ t.others ++ own_all t.acts = ap (drop (length old.steps)) t.grown ∙ drop-append_seam old.steps (t.others ++ own_all t.acts) in
-      record {
-        others = t.others;
-        acts = t.acts;
-        by_others = by_local allows (files_of old) t.others t.by_others (look_parts t.others (own_all t.acts) (subst OthersLook since look)).0;
-        opening = t.opening;
-        grown = t.grown;
-        files = t.files;
-        took = t.took;
-      }
-
   -- what stands stood all the while
   stood : (dir name : List ℕ) (files : Files) (others : List Step) → ByOthers (is_allowed local_rule) files others → Stands (replay files others) dir name → StandsThroughout files others dir name
   stood dir name files [] by here = here
@@ -100,14 +84,15 @@ module _ (allows : Bool → Files → Act → Type 0) where
     stood dir name (after files step.act) others by.2 here,
   )
 
-  pub names_true : (old new : Log) (dir : List ℕ) (result : Result (List (List ℕ)) StoreError) → Turn allows old new (TakesNames dir result) → OthersLook (steps_since old new)
-      → IfOk result (AreNames (files_of new) dir)
-  names_true old new dir (Ok given) turn look =
-      let t = turn_locally old new (TakesNames dir (Ok given)) look turn in
-      let now : files_of new ≡ replay (files_of old) t.others = t.files ∙ ap (λ acts. replay (replay (files_of old) t.others) (own_all acts)) t.took.0 in
-      let same : files_of old ≡ files_of new = sym (now ∙ kept old new _ t) in
+  pub names_true : (old new : Log) (dir : List ℕ) (result : Result (List (List ℕ)) StoreError) → WentList allows old new dir result → OthersLook (steps_since old new) → IfOk result (AreNames (files_of new) dir)
+  names_true old new dir (Ok given) l look =
+      let t = l.acted in
+      let by : ByOthers (is_allowed local_rule) (files_of old) t.others
+      = by_local allows (files_of old) t.others t.by (look_parts t.others (own_all (act.List dir given ∷ [])) (subst OthersLook (later_since (prefix_of t)) look)).0 in
+      let now : files_of new ≡ replay (files_of old) t.others = files_then t in
+      let same : files_of old ≡ files_of new = sym (now ∙ replay-others (is_allowed local_rule) only_read (files_of old) t.others by) in
       record {
-        only = subst (λ files. All (Stands files dir) given) same (stand_now old new _ t dir given t.took.1.only);
-        each = λ name here. t.took.1.each name (stood dir name (files_of old) t.others t.by_others (subst (λ files. Stands files dir name) now here));
+        only = subst (λ files. All (Stands files dir) given) same (stand_now (is_allowed local_rule) only_read (files_of old) t.others by dir given l.names.only);
+        each = λ name here. l.names.each name (stood dir name (files_of old) t.others by (subst (λ files. Stands files dir name) now here));
       }
-  names_true old new dir (Err e) turn look = tt
+  names_true old new dir (Err e) t look = tt

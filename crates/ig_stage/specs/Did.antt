@@ -1,5 +1,5 @@
 -- What a call did where others only read.
-use Rattle.std.specs.Prelude.{◌≡◌, ℕ, List, [], ◌∷◌, ◌++◌, All, Option, Result, Ok, Err, Bool, is_some}
+use Rattle.std.specs.Prelude.{◌≡◌, ℕ, List, [], ◌∷◌, ◌++◌, Option, Result, Ok, Err}
 use Rattle.ig_defs.specs.declared.step.Act.{Act}
 use Rattle.ig_defs.specs.declared.step.Act.TheVariants as act
 use Rattle.ig_defs.specs.declared.step.Step.{Step}
@@ -7,7 +7,6 @@ use Rattle.ig_defs.specs.declared.error.StoreError.{StoreError}
 use Rattle.ig_defs.specs.declared.error.StoreError.TheVariants.{Failed, Memory}
 use Rattle.ig_defs.specs.Files.{Files, file_at}
 use Rattle.ig_defs.specs.Log.{Log, after, files_of}
-use Rattle.ig_defs.specs.Names.{Stands}
 use Rattle.ig_defs.specs.Own.{Moment, own_moments}
 
 -- own acts, each with the files that those before it left
@@ -31,14 +30,6 @@ pub record Did (old new : Log) (acts : List Act) : Type 0 where
 abbrev pub DidRead : Log → Log → List ℕ → Result (Option (List ℕ)) StoreError → Type 0
 DidRead old new path (Ok found) = Did old new (act.Read path ∷ []) × (found ≡ file_at (files_of old) path)
 DidRead old new path (Err e) = Did old new []
-
-abbrev pub DidHas : Log → Log → List ℕ → Result Bool StoreError → Type 0
-DidHas old new path (Ok found) = Did old new (act.Read path ∷ []) × (found ≡ is_some (file_at (files_of old) path))
-DidHas old new path (Err e) = Did old new []
-
-abbrev pub DidList : Log → Log → List ℕ → Result (List (List ℕ)) StoreError → Type 0
-DidList old new dir (Ok given) = Did old new (act.List dir given ∷ []) × All (Stands (files_of old) dir) given
-DidList old new dir (Err e) = Did old new []
 
 -- a put that failed, and was made or not
 pub data MayHavePut (old new : Log) (path bytes : List ℕ) : Type 0 where

@@ -6,7 +6,7 @@ ghost use Rattle.ig_defs.specs.Names.{IsNameIn};
 ghost use Rattle.ig_defs.specs.Own.{steps_since};
 ghost use Rattle.ig_rule.specs.Went.{WentRead, WentHas, WentList, WentPut};
 ghost use Rattle.ig_task.specs.Pipeline.{is_allowed};
-ghost use Rattle.ig_stage.specs.Did.{DidRead, DidHas, DidList, DidPut};
+ghost use Rattle.ig_stage.specs.Did.{DidRead, DidPut};
 ghost use Rattle.ig_stage.specs.Looking.{AreNames, OthersLook};
 ghost use Rattle.ig_stage.specs.Pipeline.{local_rule};
 
@@ -27,7 +27,6 @@ pub fn has<S: Store<Pipeline>>(store: &mut S, path: &Path) -> Result<bool, Store
     ensures rule { S.rule store.new ≡ S.rule store.old }
     ensures cause { HasCause (S.faults store.old) (S.faults store.new) result }
     ensures went { S.tells → WentHas (is_allowed (S.rule store.old)) (S.log store.old) (S.log store.new) path.now result }
-    ensures did { S.tells → S.rule store.old ≡ local_rule → DidHas (S.log store.old) (S.log store.new) path.now result }
 {
     store.has(path)
 }
@@ -38,7 +37,6 @@ pub fn names<S: Store<Pipeline>>(store: &mut S, dir: &Path) -> Result<Names, Sto
     ensures named { IfOk result (All (IsNameIn dir.now)) }
     ensures went { S.tells → WentList (is_allowed (S.rule store.old)) (S.log store.old) (S.log store.new) dir.now result }
     ensures lists { S.tells → OthersLook (steps_since (S.log store.old) (S.log store.new)) → IfOk result (AreNames (files_of (S.log store.new)) dir.now) }
-    ensures did { S.tells → S.rule store.old ≡ local_rule → DidList (S.log store.old) (S.log store.new) dir.now result }
 {
     store.names(dir)
 }

@@ -1,9 +1,10 @@
 ghost use Rattle.std.specs.Prelude.{◌≡◌, ◌++◌, [], ◌∷◌, ℕ, All, IfOk, OnOk, OnErr, is_some, if◌then◌else◌};
 ghost use Rattle.std.specs.Option.{option_copied};
-ghost use Rattle.ig_defs.specs.Log.{Turn, files_of, own, own_all};
+ghost use Rattle.ig_defs.specs.Log.{files_of, own, own_all};
 ghost use Rattle.ig_defs.specs.Files.{file_at};
 ghost use Rattle.ig_defs.specs.Names.{IsNameIn};
-ghost use Rattle.ig_defs.specs.Calls.{HasCause, TakesRead, TakesHas, TakesNames, TakesPut, TakesRemove, TakesShift};
+ghost use Rattle.ig_defs.specs.Answers.{answer_by, Answered, Found, Lists, Names as Listed, put_answer, Puts, Reads, Removes, Sees, Shifts, WasThere};
+ghost use Rattle.ig_defs.specs.Calls.{HasCause};
 ghost use Rattle.ig_defs.specs.declared.step.Act.TheVariants as act;
 ghost use Rattle.ig_store.specs.Fails.{fail_of, counted, shown, most_of, shown-most, acts_of, Answers, AnswersPut, is_made};
 ghost use Rattle.ig_store.specs.Memory.{Memory};
@@ -114,7 +115,7 @@ impl<R: Rule> Store<R> for MemStore<R> {
         ensures rule { self.new.rule ≡ self.old.rule }
         ensures most { most_of self.new.fails ≡ most_of self.old.fails }
         ensures cause { HasCause (shown self.old.fails self.old.faults) (shown self.new.fails self.new.faults) result }
-        ensures turn { Unit {0} → Turn (R.allows self.old.rule) self.old.log self.new.log (TakesRead path.now result) }
+        ensures turn { Unit {0} → Answered (R.allows self.old.rule) self.old.log self.new.log (Reads path.now) (answer_by Found result) }
         ensures call { self.new.calls ≡ counted self.old.calls }
         ensures fails { self.new.fails ≡ self.old.fails }
         ensures fault { self.new.faults ≡ (if is_some (fail_of self.old.fails self.new.calls) then counted self.old.faults else self.old.faults) }
@@ -130,7 +131,7 @@ impl<R: Rule> Store<R> for MemStore<R> {
         ensures rule { self.new.rule ≡ self.old.rule }
         ensures most { most_of self.new.fails ≡ most_of self.old.fails }
         ensures cause { HasCause (shown self.old.fails self.old.faults) (shown self.new.fails self.new.faults) result }
-        ensures turn { Unit {0} → Turn (R.allows self.old.rule) self.old.log self.new.log (TakesHas path.now result) }
+        ensures turn { Unit {0} → Answered (R.allows self.old.rule) self.old.log self.new.log (Sees path.now) (answer_by WasThere result) }
         ensures call { self.new.calls ≡ counted self.old.calls }
         ensures fails { self.new.fails ≡ self.old.fails }
         ensures fault { self.new.faults ≡ (if is_some (fail_of self.old.fails self.new.calls) then counted self.old.faults else self.old.faults) }
@@ -147,7 +148,7 @@ impl<R: Rule> Store<R> for MemStore<R> {
         ensures most { most_of self.new.fails ≡ most_of self.old.fails }
         ensures cause { HasCause (shown self.old.fails self.old.faults) (shown self.new.fails self.new.faults) result }
         ensures named { IfOk result (All (IsNameIn dir.now)) }
-        ensures turn { Unit {0} → Turn (R.allows self.old.rule) self.old.log self.new.log (TakesNames dir.now result) }
+        ensures turn { Unit {0} → Answered (R.allows self.old.rule) self.old.log self.new.log (Lists dir.now) (answer_by Listed result) }
         ensures call { self.new.calls ≡ counted self.old.calls }
         ensures fails { self.new.fails ≡ self.old.fails }
         ensures fault { self.new.faults ≡ (if is_some (fail_of self.old.fails self.new.calls) then counted self.old.faults else self.old.faults) }
@@ -163,7 +164,7 @@ impl<R: Rule> Store<R> for MemStore<R> {
         ensures rule { self.new.rule ≡ self.old.rule }
         ensures most { most_of self.new.fails ≡ most_of self.old.fails }
         ensures cause { HasCause (shown self.old.fails self.old.faults) (shown self.new.fails self.new.faults) result }
-        ensures turn { Unit {0} → Turn (R.allows self.old.rule) self.old.log self.new.log (TakesPut path.now bytes.now result) }
+        ensures turn { Unit {0} → Answered (R.allows self.old.rule) self.old.log self.new.log (Puts path.now bytes.now) (answer_by put_answer result) }
         ensures call { self.new.calls ≡ counted self.old.calls }
         ensures fails { self.new.fails ≡ self.old.fails }
         ensures fault { self.new.faults ≡ (if is_some (fail_of self.old.fails self.new.calls) then counted self.old.faults else self.old.faults) }
@@ -185,7 +186,7 @@ impl<R: Rule> Store<R> for MemStore<R> {
         ensures rule { self.new.rule ≡ self.old.rule }
         ensures most { most_of self.new.fails ≡ most_of self.old.fails }
         ensures cause { HasCause (shown self.old.fails self.old.faults) (shown self.new.fails self.new.faults) result }
-        ensures turn { Unit {0} → Turn (R.allows self.old.rule) self.old.log self.new.log (TakesShift from.now to.now result) }
+        ensures turn { Unit {0} → Answered (R.allows self.old.rule) self.old.log self.new.log (Shifts from.now to.now) (answer_by WasThere result) }
         ensures call { self.new.calls ≡ counted self.old.calls }
         ensures fails { self.new.fails ≡ self.old.fails }
         ensures fault { self.new.faults ≡ (if is_some (fail_of self.old.fails self.new.calls) then counted self.old.faults else self.old.faults) }
@@ -200,7 +201,7 @@ impl<R: Rule> Store<R> for MemStore<R> {
         ensures rule { self.new.rule ≡ self.old.rule }
         ensures most { most_of self.new.fails ≡ most_of self.old.fails }
         ensures cause { HasCause (shown self.old.fails self.old.faults) (shown self.new.fails self.new.faults) result }
-        ensures turn { Unit {0} → Turn (R.allows self.old.rule) self.old.log self.new.log (TakesRemove path.now result) }
+        ensures turn { Unit {0} → Answered (R.allows self.old.rule) self.old.log self.new.log (Removes path.now) (answer_by WasThere result) }
         ensures call { self.new.calls ≡ counted self.old.calls }
         ensures fails { self.new.fails ≡ self.old.fails }
         ensures fault { self.new.faults ≡ (if is_some (fail_of self.old.fails self.new.calls) then counted self.old.faults else self.old.faults) }

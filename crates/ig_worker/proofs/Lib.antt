@@ -1,4 +1,3 @@
-pub mod Turns
 pub mod NotedStages
 pub mod QueuedNames
 pub mod AnyCandidates

@@ -2,14 +2,12 @@
 use Rattle.std.proofs.Common.{◌≡◌, ℕ, Bool, List, Result, subst}
 use Rattle.ig_defs.specs.declared.error.StoreError.{StoreError}
 use Rattle.ig_defs.specs.declared.step.Act.{Act}
-use Rattle.ig_defs.specs.Calls.{TakesShift}
-use Rattle.ig_defs.specs.Files.{Files}
-use Rattle.ig_defs.specs.Log.{Log, Turn}
 use Rattle.ig_defs.specs.Answers.{answer_by, Answered, Shifts, WasThere}
-use Rattle.ig_worker.proofs.Turns.{answers_shift}
+use Rattle.ig_defs.specs.Files.{Files}
+use Rattle.ig_defs.specs.Log.{Log}
 
 -- by whether the move was made
 pub shift_answered : (allows : Bool → Files → Act → Type 0) (old new : Log) (from to : List ℕ) (made is : Result Bool StoreError) → made ≡ is
-    → Turn allows old new (TakesShift from to made) → Answered allows old new (Shifts from to) (answer_by WasThere is)
+    → Answered allows old new (Shifts from to) (answer_by WasThere made) → Answered allows old new (Shifts from to) (answer_by WasThere is)
 shift_answered allows old new from to made is same t =
-    subst (λ (r : Result Bool StoreError). Answered allows old new (Shifts from to) (answer_by WasThere r)) same (answers_shift allows old new from to made t)
+    subst (λ (r : Result Bool StoreError). Answered allows old new (Shifts from to) (answer_by WasThere r)) same t

@@ -4,12 +4,10 @@ use Rattle.std.proofs.Common.{arith, ap, sym, subst, true≢false, ◌∙◌, ap
 use Rattle.ig_space.specs.Path.{joined}
 use Rattle.ig_space.specs.declared.task_id.TaskId.{TaskId}
 use Rattle.ig_defs.specs.declared.step.Act.{Act}
-use Rattle.ig_defs.specs.declared.step.Act.TheVariants as act
-use Rattle.ig_defs.specs.Calls.{ListsNames}
 use Rattle.ig_defs.specs.Files.{Files}
 use Rattle.ig_defs.specs.Log.{Log, files_of}
-use Rattle.ig_defs.specs.TurnLaws.{grew_in, listed_in, prefix_of, prefix_then}
-use Rattle.ig_defs.specs.Turns.{Acted, IsPrefix, Listed}
+use Rattle.ig_defs.specs.TurnLaws.{grew_in, listed_in, listed_of, prefix_of, prefix_then}
+use Rattle.ig_defs.specs.Turns.{IsPrefix, Listed}
 use Rattle.ig_meaning.specs.QueueMaking.{stages_dir}
 use Rattle.ig_rule.specs.Facts.{Facts}
 use Rattle.ig_rule.specs.declared.role.Role.{Role}
@@ -20,7 +18,7 @@ use Rattle.ig_worker.specs.declared.plan.Plan.{Plan}
 use Rattle.ig_worker.specs.declared.turn.Line.{Line}
 use Rattle.ig_worker.specs.declared.turn.Line.TheVariants as line
 use Rattle.ig_worker.specs.AtEnd.{Ending, Listing}
-use Rattle.ig_defs.specs.Answers.{Lists, Names, Takes}
+use Rattle.ig_defs.specs.Answers.{IsAnswered, Lists, Names}
 use Rattle.ig_worker.specs.Course.{Course, said_of}
 use Rattle.ig_worker.specs.EndsCourse.{course_later, course_prefix}
 use Rattle.ig_worker.specs.EndsLasts.{lasts_later}
@@ -64,17 +62,9 @@ one_more role plan old mid m ms next last new nothing e = record {
 }
 
 -- ---- a listing
-by_act : (allows : Bool → Files → Act → Type 0) (old new : Log) (dir : List ℕ) (given : List (List ℕ)) (a : Act) → a ≡ act.List dir given → (acted : Acted allows old new a)
-    → ListsNames dir given (files_of old) acted.others → Listed allows old new dir given
-by_act allows old new dir given a e =
-    let P = λ (b : Act). (acted : Acted allows old new b) → ListsNames dir given (files_of old) acted.others → Listed allows old new dir given in
-    subst P (sym e) (λ acted names. record { acted = acted; names = names })
-
 pub listed_by : (allows : Bool → Files → Act → Type 0) (from to : ℕ) (s : State) (old new : Log) (m : Move) (dir : List ℕ) (given : List (List ℕ)) (next : State) (said : List Line)
     → m ≡ moves (Lists dir) (Names given) next said → Called allows from to s old new m → Listed allows old new dir given
-listed_by allows from to s old new m dir given next said e c =
-    let takes = subst (λ (v : Move). Takes (files_of old) c.answered.acted.others v.call v.answer c.answered.act) e c.answered.takes in
-    by_act allows old new dir given c.answered.act takes.0 c.answered.acted takes.1
+listed_by allows from to s old new m dir given next said e c = listed_of (subst (λ (v : Move). IsAnswered allows old new v.call v.answer) e c.answered)
 
 -- ---- one step
 pub step_lasts : (role : Role) (plan : Plan) (from to : ℕ) (s : State) (old new : Log) (m : Move) → Stays plan from s old → Stays plan to m.next new → Called (AllowsFor role plan) from to s old new m

@@ -1,7 +1,7 @@
 use Rattle.std.proofs.Common.{refl, ap, ◌∙◌}
 use Rattle.ig_defs.specs.QueueNames.{task_of}
 use Rattle.ig_rule.specs.QueueFiles.{Dead, path_of}
-use Rattle.ig_queue.proofs.Moving.{not_closed, move_legal, task_fits_of}
+use Rattle.ig_queue.proofs.Moving.{not_closed, shifted, move_legal, task_fits_of}
 use Rattle.ig_queue.proofs.moves.bury.Goals as goal
 
 pub returns-in_err-from-clause-turn : goal.returns-in_err-from-clause-turn
@@ -27,3 +27,11 @@ returns-clause-legal g c =
     λ tells read role keep. move_legal _ read role c.args.queue.now _ _ c.args.name (Dead (task_of c.args.name)) c.in_ok-from.from c.in_ok-to.to c.shift.result
     c.requires.fits (task_fits_of c.args.name c.requires.fits) c.in_ok-from.ensures (c.in_ok-to.ensures ∙ ap (λ id. path_of c.args.queue.now (Dead id)) c.task_of.ensures)
     (c.shift.ensures.turn tells) keep (λ others by. refl)
+
+pub returns-then-branch-clause-turn : goal.returns-then-branch-clause-turn
+returns-then-branch-clause-turn g c = λ tells.
+    shifted _ _ _ _ _ _ _ _ _ c.in_ok-from.ensures (c.in_ok-to.ensures ∙ ap (λ id. path_of c.args.queue.now (Dead id)) c.task_of.ensures) c.if-branch.true (c.in_ok-shift.ensures.turn tells)
+
+pub returns-clause-turn : goal.returns-clause-turn
+returns-clause-turn g c = λ tells.
+    shifted _ _ _ _ _ _ _ _ _ c.in_ok-from.ensures (c.in_ok-to.ensures ∙ ap (λ id. path_of c.args.queue.now (Dead id)) c.task_of.ensures) c.if-branch.false (c.in_ok-shift.ensures.turn tells)

@@ -8,4 +8,4 @@ invariant_of-self g c =
 
 pub returns-clause-turn : goal.returns-clause-turn
 returns-clause-turn g c =
-    λ _. rw (← c.self.view_is) (put_turn _ _ _ _ _ _ _ c.begin-fail.result c.put_file.result c.self.invariant c.put_file.ensures.step)
+    λ _. rw (← c.self.view_is) (put_turn _ _ _ _ _ c.self.invariant c.args.path.now c.args.bytes.now c.begin-fail.result c.put_file.result c.put_file.ensures.step)

@@ -12,4 +12,4 @@ invariant_of-self g c =
 
 pub returns-clause-turn : goal.returns-clause-turn
 returns-clause-turn g c =
-    λ _. rw (← c.self.view_is) (remove_turn _ _ _ _ _ _ c.begin-fail.result c.remove_file.result c.self.invariant c.remove_file.ensures.found c.remove_file.ensures.step)
+    λ _. rw (← c.self.view_is) (remove_turn _ _ _ _ _ c.self.invariant c.args.path.now c.begin-fail.result c.remove_file.result c.remove_file.ensures.found c.remove_file.ensures.step)

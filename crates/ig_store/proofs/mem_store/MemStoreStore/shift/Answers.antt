@@ -12,4 +12,4 @@ invariant_of-self g c =
 
 pub returns-clause-turn : goal.returns-clause-turn
 returns-clause-turn g c =
-    λ _. rw (← c.self.view_is) (shift_turn _ _ _ _ _ _ _ c.begin-fail.result c.shift_file.result c.self.invariant c.shift_file.ensures.found c.shift_file.ensures.step)
+    λ _. rw (← c.self.view_is) (shift_turn _ _ _ _ _ c.self.invariant c.args.from.now c.args.to.now c.begin-fail.result c.shift_file.result c.shift_file.ensures.found c.shift_file.ensures.step)
