@@ -8,6 +8,7 @@ use Rattle.ig_defs.specs.QueueNames.{stage_file}
 use Rattle.ig_layer.specs.Faults.{first_of}
 use Rattle.ig_rule.specs.QueueFiles.{Record, Seal, path_of}
 use Rattle.ig_record.specs.declared.stage.Stage.{Stage}
+use Rattle.ig_record.specs.Answers.{record_fault}
 use Rattle.ig_record.specs.Reading.{record_in}
 use Rattle.ig_meaning.specs.Refusal.{Refusal, BadRecord, Missing, TooManyStages}
 use Rattle.ig_meaning.specs.Making.{Making, Continues, New, Refused, Unfinished, given_by, lists, making_of_copy, reads, where_it_looks}
@@ -38,15 +39,15 @@ record_count [] = 0
 record_count (name ∷ names) = beyond (stage_named name) (record_count names)
 
 -- ---- the stages
-abbrev pub with_stage : List ℕ → ℕ → Option Stage → Result (List Stage) Refusal → Result (List Stage) Refusal
-with_stage q n None rest = Err (BadRecord (record_path q n) (codes "$"))
-with_stage q n (Some s) (Ok stages) = Ok (s ∷ stages)
-with_stage q n (Some s) (Err refusal) = Err refusal
+abbrev pub with_stage : List ℕ → ℕ → List ℕ → Option Stage → Result (List Stage) Refusal → Result (List Stage) Refusal
+with_stage q n text None rest = Err (BadRecord (record_path q n) (record_fault n text))
+with_stage q n text (Some s) (Ok stages) = Ok (s ∷ stages)
+with_stage q n text (Some s) (Err refusal) = Err refusal
 
 -- the stages of these records, the first of which has number n, or the first of them that is refused
 abbrev pub stages_of : List ℕ → ℕ → List (List ℕ) → Result (List Stage) Refusal
 stages_of q n [] = Ok []
-stages_of q n (text ∷ texts) = with_stage q n (record_in n text) (stages_of q (suc n) texts)
+stages_of q n (text ∷ texts) = with_stage q n text (record_in n text) (stages_of q (suc n) texts)
 
 abbrev pub making_of_texts : (List Stage → List Moment → Making) → Result (List Stage) Refusal → List Moment → Making
 making_of_texts next (Ok stages) ms = next stages ms

@@ -42,10 +42,10 @@ pub gives-back : {X : Type 0} (r : Result X RecordError) (o : Option X) (x : X) 
 gives-back (Ok y) o x is h = the_some y x (sym h ∙ is)
 gives-back (Err e) o x is h = fails-back e o x is h
 
-fails-refused : {X : Type 0} (e : RecordError) (o : Option X) (P : X → Type 0) → ((x : X) → P x → o ≡ Some x) → Fails e o → Refuses P e
+fails-refused : {X : Type 0} (e : RecordError) (o : Option X) (P : X → Type 0) → ((x : X) → P x → o ≡ Some x) → Fails e o → Refuses (codes "$") P e
 fails-refused (BadRecord member) o P found h = (h.0, λ x holds. let is = found x holds in let none = h.1 in absurd cc)
 fails-refused Memory o P found h = tt
 
-pub gives-refused : {X : Type 0} (r : Result X RecordError) (o : Option X) (P : X → Type 0) → ((x : X) → P x → o ≡ Some x) → Gives (λ x. x) r o → IfErr r (Refuses P)
+pub gives-refused : {X : Type 0} (r : Result X RecordError) (o : Option X) (P : X → Type 0) → ((x : X) → P x → o ≡ Some x) → Gives (λ x. x) r o → IfErr r (Refuses (codes "$") P)
 gives-refused (Ok x) o P found h = tt
 gives-refused (Err e) o P found h = fails-refused e o P found h

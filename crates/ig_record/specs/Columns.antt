@@ -163,6 +163,19 @@ abbrev pub removed_by : Kind → Stage → Option (List ℕ)
 removed_by Remove s = Some s.source.dir
 removed_by kind s = None
 
+-- ---- the info
+-- whether no file may stand at the path of its info before: that of a new layer
+abbrev pub needs_fresh_info : Kind → Bool
+needs_fresh_info Xfer = true
+needs_fresh_info Downsample = false
+needs_fresh_info Faces = false
+needs_fresh_info Links = false
+needs_fresh_info Labels = false
+needs_fresh_info Relabel = true
+needs_fresh_info Count = false
+needs_fresh_info Sum = false
+needs_fresh_info Remove = false
+
 -- ---- of a stage
 abbrev pub output_dirs : Stage → List (List ℕ)
 output_dirs s = dirs_by s.kind s

@@ -1,5 +1,5 @@
 -- The tasks of a stage, and the limits of these: this project's own.
-use Rattle.std.specs.Prelude.{ℕ, zero, suc, ◌==◌, ◌%◌, ◌*◌, ◌^◌, max, if◌then◌else◌, List, [], ◌∷◌, length, Option, None, Some}
+use Rattle.std.specs.Prelude.{ℕ, zero, suc, ◌==◌, ◌%◌, ◌*◌, ◌^◌, max, if◌then◌else◌, List, [], ◌∷◌, length, Option, None, Some, option_map}
 use Rattle.ig_space.specs.declared.point.Point.{Point}
 use Rattle.ig_space.specs.declared.point.Box3.{Box3}
 use Rattle.ig_space.specs.declared.geometry.Grid.{Grid}
@@ -68,6 +68,14 @@ usual_units Relabel = None
 usual_units Count = Some 2
 usual_units Sum = None
 usual_units Remove = Some 2
+
+-- so many of a size on each axis
+abbrev pub times : ℕ → Point → Point
+times n p = record { x = n * p.x; y = n * p.y; z = n * p.z }
+
+-- that shape, if no earlier pass has it
+abbrev pub usual_shape : Kind → Place → List Place → Option Point
+usual_shape kind source dests = option_map (λ n. times n (shape_unit kind source dests)) (usual_units kind)
 
 -- the first axis on which the shape is no multiple
 abbrev pub unfit_axis : Point → Point → Option ℕ

@@ -80,7 +80,7 @@ pub fn read_task(alloc: Global, bytes: &[u8], stage: &Stage) -> Result<TaskId, R
     ensures value { Gives (λ x. x) result (task_in stage.now bytes.now) }
     ensures ok { IfOk result (λ id. (id.task < task_count stage.now) × (bytes.now ≡ task_text id stage.now)) }
     ensures back { (id : TaskId) → IsTask id stage.now bytes.now → IsGiven id result }
-    ensures refused { IfErr result (Refuses (λ id. IsTask id stage.now bytes.now)) }
+    ensures refused { IfErr result (Refuses (codes "$") (λ id. IsTask id stage.now bytes.now)) }
 {
     read_text(alloc, bytes, stage)
 }

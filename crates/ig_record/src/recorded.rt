@@ -4,7 +4,7 @@ ghost use Rattle.std.specs.Str.{bytes_eq};
 ghost use Rattle.serde_json.specs.Find.{get};
 ghost use Rattle.serde_json.specs.View.{view as data_of};
 ghost use Rattle.ig_info.specs.Whole.{parsed};
-ghost use Rattle.ig_record.specs.Answers.{Gives, IsGiven, Refuses};
+ghost use Rattle.ig_record.specs.Answers.{Gives, GivesBy, IsGiven, Refuses, record_fault};
 ghost use Rattle.ig_record.specs.Reading.{file_of, info_of, kind_of, place_of, record_in, recorded, scratch_of, stage_of, text_of};
 ghost use Rattle.ig_record.specs.Record.{IsRecord, record_text};
 ghost use Rattle.ig_record.specs.Sound.{is_sound};
@@ -172,10 +172,10 @@ fn read_record(alloc: Global, number: u32, bytes: &[u8]) -> Result<Stage, Record
 
 /// The stage whose record with this number has these bytes. Each other order, space, extra or missing member is refused.
 pub fn read_stage(alloc: Global, number: u32, bytes: &[u8]) -> Result<Stage, RecordError>
-    ensures value { Gives (λ x. x) result (record_in number bytes.now) }
+    ensures value { GivesBy (record_fault number bytes.now) (λ x. x) result (record_in number bytes.now) }
     ensures ok { IfOk result (λ stage. IsRecord number stage bytes.now) }
     ensures back { (stage : Stage) → IsRecord number stage bytes.now → IsGiven stage result }
-    ensures refused { IfErr result (Refuses (λ stage. IsRecord number stage bytes.now)) }
+    ensures refused { IfErr result (Refuses (record_fault number bytes.now) (λ stage. IsRecord number stage bytes.now)) }
 {
     read_record(alloc, number, bytes)
 }

@@ -52,7 +52,7 @@ IsFileOf s path = (s.is_chunk path ≡ true) ⊎ LiesInOne s.outputs path
 pub keeps_same : (records : Records) (old new : Files) → KeepLaws records
     → ((n : ℕ) (s : Facts) → records n ≡ Some s → (path : List ℕ) → IsFileOf s path → file_at new path ≡ file_at old path) → Keeps records old new
 keeps_same records old new laws same = record {
-  chunks = λ n s is makes spared path bytes chunk e. same n s is path (inl chunk) ∙ e;
+  chunks = λ n s is makes spared. record { kept = λ path bytes chunk e. same n s is path (inl chunk) ∙ e };
   stays = λ n s is makes clear path bytes lies e. same n s is path (inr lies) ∙ e;
   added = λ n s is makes path bytes lies e. inl (sym (same n s is path (inr lies)) ∙ e);
   gone = λ n s is removes path path_is none. same n s is path (inl ((laws n s is).removed_chunk removes path path_is)) ∙ none;

@@ -83,7 +83,7 @@ output_gone records files path bytes laws u n s is removes other path_is none = 
 pub keeps_output : (q : List ℕ) (records : Records) (queue : Queue) (files : Files) (path bytes : List ℕ) → KeepLaws records → AreSoundStages q records → AreSoundFiles records queue files
     → PutsOutput records files path bytes → Keeps records files (map.insert files path bytes)
 keeps_output q records queue files path bytes laws stages sound u = record {
-  chunks = λ n s is makes spared other there chunk e. output_stays records queue files path bytes laws sound u other there e;
+  chunks = λ n s is makes spared. record { kept = λ other there chunk e. output_stays records queue files path bytes laws sound u other there e };
   stays = λ n s is makes clear other there lies e. output_stays records queue files path bytes laws sound u other there e;
   added = λ n s is makes. output_added q records files path bytes laws stages u n s is;
   gone = output_gone records files path bytes laws u;
@@ -110,7 +110,7 @@ keeps_info q records queue files path bytes laws stages u =
 
 pub keeps_removal : (records : Records) (files : Files) (path : List ℕ) → KeepLaws records → MayRemove records path → Keeps records files (map.remove files path)
 keeps_removal records files path laws u = record {
-  chunks = λ n s is makes spared other there chunk e. file_at-kept files other path (λ same. no_chunk n s is makes spared (subst (λ p. s.is_chunk p ≡ true) same chunk)) ∙ e;
+  chunks = λ n s is makes spared. record { kept = λ other there chunk e. file_at-kept files other path (λ same. no_chunk n s is makes spared (subst (λ p. s.is_chunk p ≡ true) same chunk)) ∙ e };
   stays = λ n s is makes clear other there lies e. file_at-kept files other path (λ same. no_output n s is makes clear (subst (LiesInOne s.outputs) same lies)) ∙ e;
   added = λ n s is makes other there lies now. inl (was_there other there now (cases_path other path));
   gone = λ n s is removes other path_is none. stays_gone other none (cases_path other path);

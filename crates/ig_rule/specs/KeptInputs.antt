@@ -33,14 +33,14 @@ pub over_wanted : (read : Reader) → KindLaws read → (q : List ℕ) (files : 
 over_wanted read kinds q files l mixed h over path bytes wanted =
     let laws = keep_laws read kinds (queue_of q files) l.id.stage l.stage h.is in
     laws.wanted_stays mixed (file_at files) path bytes
-    (λ chunk there is_chunk e. sym (same_chunk (stages_in read q files) files l mixed laws h over chunk is_chunk) ∙ e) wanted
+    (record { kept = λ chunk there is_chunk e. sym (same_chunk (stages_in read q files) files l mixed laws h over chunk is_chunk) ∙ e }) wanted
 
 over_stays : (read : Reader) → KindLaws read → (q : List ℕ) (files : Files) (l : Lease) (mixed : Reading) → IsKnownLease (stages_in read q files) files l → IsOver l (file_at files) mixed
     → (path bytes : List ℕ) → l.stage.scratch (file_at files) path ≡ Some bytes → l.stage.scratch mixed path ≡ Some bytes
 over_stays read kinds q files l mixed h over path bytes wanted =
     let laws = keep_laws read kinds (queue_of q files) l.id.stage l.stage h.is in
     laws.scratch_stays (file_at files) mixed path bytes
-    (λ chunk there is_chunk e. same_chunk (stages_in read q files) files l mixed laws h over chunk is_chunk ∙ e) wanted
+    (record { kept = λ chunk there is_chunk e. same_chunk (stages_in read q files) files l mixed laws h over chunk is_chunk ∙ e }) wanted
 
 -- A kept scratch file is what earlier passes want over the overlay.
 pub over_scratch : (read : Reader) → KindLaws read → (q : List ℕ) (files : Files) (l : Lease) (mixed : Reading) → IsKnownLease (stages_in read q files) files l → IsOver l (file_at files) mixed

@@ -44,7 +44,7 @@ lease_kept records later old new laws keeps adds l h = record {
   no_inputs = h.no_inputs;
   sources = λ file among. (
     (h.sources file among).0,
-    keeps.chunks l.id.stage l.stage h.is (lease_makes records old l h file (inl among)) h.clear.source file.path file.bytes (h.sources file among).0 (h.sources file among).1,
+    (keeps.chunks l.id.stage l.stage h.is (lease_makes records old l h file (inl among)) h.clear.source).kept file.path file.bytes (h.sources file among).0 (h.sources file among).1,
   );
   scratch = λ file among.
       (laws l.id.stage l.stage h.is).scratch_stays (file_at old) (file_at new) file.path file.bytes

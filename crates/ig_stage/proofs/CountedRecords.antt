@@ -152,6 +152,6 @@ reads_all q n (text ∷ texts) (s ∷ ss) g =
     let rest = reads_all q (suc n) texts ss g.1 in
     record {
       stages = one.stage ∷ rest.stages;
-      are = ap (λ given. with_stage q n given (stages_of q (suc n) texts)) one.is ∙ ap (with_stage q n (Some one.stage)) rest.are;
+      are = ap (λ given. with_stage q n text given (stages_of q (suc n) texts)) one.is ∙ ap (with_stage q n text (Some one.stage)) rest.are;
       same = (one.same, rest.same);
     }

@@ -1,5 +1,5 @@
 -- What a reading of the records of a queue says.
-use Rattle.std.specs.Prelude.{◌≡◌, ◌<◌, ℕ, suc, Bool, true, false, List, [], ◌∷◌, ◌++◌, length, Option, None, Some, slice_get, Result, Ok, Err, codes}
+use Rattle.std.specs.Prelude.{◌≡◌, ◌<◌, ℕ, suc, Bool, true, false, List, [], ◌∷◌, ◌++◌, length, Option, None, Some, slice_get, Result, Ok, Err}
 use Rattle.ig_defs.specs.declared.step.Act.{Act}
 use Rattle.ig_defs.specs.Files.{Files}
 use Rattle.ig_defs.specs.Log.{Log}
@@ -9,6 +9,8 @@ use Rattle.ig_meaning.specs.Making.{Making, Continues, Unfinished}
 use Rattle.ig_meaning.specs.QueueMaking.{if_sealed, last_of, making_of_records, making_of_texts, record_path, stages_of}
 use Rattle.ig_meaning.specs.Refusal as refusal
 use Rattle.ig_record.specs.declared.stage.Stage.{Stage}
+use Rattle.ig_record.specs.Answers.{record_fault}
+use Rattle.ig_record.specs.Reading.{record_in}
 use Rattle.ig_rule.specs.Facts.{KindLaws}
 use Rattle.ig_rule.specs.QueueFiles.{Record, Seal, queue_of}
 use Rattle.ig_rule.specs.Sound.{Sound}
@@ -24,16 +26,16 @@ use Rattle.ig_task.specs.declared.pipeline.Pipeline.{Pipeline}
 -- ---- the stages of texts
 
 -- a text is refused so, where a call ends so
-abbrev pub IsNoRecord : List ℕ → ℕ → Ending → Option Stage → Type 0
-IsNoRecord q n (Refuses r) given = (r ≡ refusal.BadRecord (record_path q n) (codes "$")) × (given ≡ None)
-IsNoRecord q n NoMemory given = Unit {0}
-IsNoRecord q n StoreFailed given = ⊥
-IsNoRecord q n Finished given = ⊥
+abbrev pub IsNoRecord : List ℕ → ℕ → List ℕ → Ending → Type 0
+IsNoRecord q n text (Refuses r) = (r ≡ refusal.BadRecord (record_path q n) (record_fault n text)) × (record_in n text ≡ None)
+IsNoRecord q n text NoMemory = Unit {0}
+IsNoRecord q n text StoreFailed = ⊥
+IsNoRecord q n text Finished = ⊥
 
 -- the stage that a text gives as the record of this number
-abbrev pub GivesStage : List ℕ → ℕ → Result Stage MakeError → Option Stage → Type 0
-GivesStage q n (Ok s) given = given ≡ Some s
-GivesStage q n (Err e) given = IsNoRecord q n (ending_of_make e) given
+abbrev pub GivesStage : List ℕ → ℕ → List ℕ → Result Stage MakeError → Type 0
+GivesStage q n text (Ok s) = record_in n text ≡ Some s
+GivesStage q n text (Err e) = IsNoRecord q n text (ending_of_make e)
 
 -- texts are refused so, where a call ends so
 abbrev pub AreNoRecords : Ending → Result (List Stage) refusal.Refusal → Type 0

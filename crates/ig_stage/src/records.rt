@@ -2,7 +2,6 @@
 ghost use Rattle.std.specs.Prelude.{◌≡◌, ◌≤◌, ◌<◌, ◌^◌, List as list, length, Some, true, All, IfOk, IfSome, IfErr};
 ghost use Rattle.ig_defs.specs.Log.{files_of};
 ghost use Rattle.ig_defs.specs.Own.{Moment};
-ghost use Rattle.ig_record.specs.Reading.{record_in};
 ghost use Rattle.ig_record.specs.Sound.{is_sound};
 ghost use Rattle.ig_record.specs.declared.stage.Stage.{Stage as Recorded};
 ghost use Rattle.ig_rule.specs.Facts.{KindLaws};
@@ -69,7 +68,7 @@ fn record_count(names: &Names) -> u32
 fn parse_text(alloc: Global, queue: &Path, number: u32, text: &Bytes) -> Result<Stage, MakeError>
     requires short { length queue.now ≤ 100 }
     requires below { number < 10 ^ 4 }
-    ensures given { GivesStage queue.now number result (record_in number text.now) }
+    ensures given { GivesStage queue.now number text.now result }
     ensures sound { IfOk result (λ stage. is_sound stage ≡ true) }
 {
     match read_stage(alloc, number, text.as_bytes()) {

@@ -86,7 +86,7 @@ module _ (notes : Notes) (first old : Files) (name : QueueName) (sound : Sound s
   -- ---- where it is done
   module _ (files : Files) (agree : Agree notes.plan.queue old files) (below : name.task < task_count s) (there : Stands old (facts_of name.stage s) name.task) where
     same_chunks : KeepsChunks (facts_of name.stage s) (file_at old) (file_at files)
-    same_chunks path bytes chunk held = sym (agree path (chunk_is_apart path chunk)) ∙ held
+    same_chunks = record { kept = λ path bytes chunk held. sym (agree path (chunk_is_apart path chunk)) ∙ held }
 
     made_there : (output : Output) → Contains (paths_of s name.task) output.path → is_some (removed_dir s) ≡ false → HasWantedText s (file_at files) output → file_at files output.path ≡ output.text
     made_there output among makes wanted =
