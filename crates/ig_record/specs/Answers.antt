@@ -7,6 +7,10 @@ use Rattle.ig_record.specs.declared.error.RecordError.TheVariants.{BadRecord, Me
 abbrev pub record_fault : ℕ → List ℕ → List ℕ
 record_fault number bytes = codes "$"
 
+-- the same of bytes which are no task's text
+abbrev pub task_fault : List ℕ → List ℕ
+task_fault bytes = codes "$"
+
 -- An error, where the bytes give this: none is the refusal of this member, and memory may run out at any place.
 abbrev pub FailsBy : {Y : Type 0} → List ℕ → RecordError → Option Y → Type 0
 FailsBy fault (BadRecord member) given = (member ≡ fault) × (given ≡ None)

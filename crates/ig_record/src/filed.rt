@@ -3,7 +3,7 @@ ghost use Rattle.std.specs.Prelude.{◌≡◌, ◌<◌, ◌&&◌, nat_lt, true, 
 ghost use Rattle.std.specs.Str.{bytes_eq};
 ghost use Rattle.serde_json.specs.View.{view as data_of};
 ghost use Rattle.ig_space.specs.declared.task_id.TaskId.{TaskId};
-ghost use Rattle.ig_record.specs.Answers.{Gives, IsGiven, Refuses};
+ghost use Rattle.ig_record.specs.Answers.{Gives, GivesBy, IsGiven, Refuses, task_fault};
 ghost use Rattle.ig_record.specs.Reading.{filed, id_of, small_of, task_in, IsTask};
 ghost use Rattle.ig_record.specs.Record.{task_text};
 ghost use Rattle.ig_record.specs.Sound.{is_sound};
@@ -77,10 +77,10 @@ fn read_text(alloc: Global, bytes: &[u8], stage: &Stage) -> Result<TaskId, Recor
 /// The task of the stage whose text has these bytes. Each other order, space, extra or missing member is refused.
 pub fn read_task(alloc: Global, bytes: &[u8], stage: &Stage) -> Result<TaskId, RecordError>
     requires { is_sound stage.now ≡ true }
-    ensures value { Gives (λ x. x) result (task_in stage.now bytes.now) }
+    ensures value { GivesBy (task_fault bytes.now) (λ x. x) result (task_in stage.now bytes.now) }
     ensures ok { IfOk result (λ id. (id.task < task_count stage.now) × (bytes.now ≡ task_text id stage.now)) }
     ensures back { (id : TaskId) → IsTask id stage.now bytes.now → IsGiven id result }
-    ensures refused { IfErr result (Refuses (codes "$") (λ id. IsTask id stage.now bytes.now)) }
+    ensures refused { IfErr result (Refuses (task_fault bytes.now) (λ id. IsTask id stage.now bytes.now)) }
 {
     read_text(alloc, bytes, stage)
 }
