@@ -1,28 +1,31 @@
 -- What a call did, by its words, its status, and the log at its entry and its exit.
-use Rattle.std.specs.Prelude.{◌≡◌, ℕ, List, [], ◌∷◌, ◌++◌, Some, None}
+use Rattle.std.specs.Prelude.{◌≡◌, ℕ, List, [], ◌∷◌, Some, None}
 use Rattle.ig_defs.specs.Files.{Files, file_at}
 use Rattle.ig_defs.specs.Log.{Log, IsQuiet, files_of}
 use Rattle.ig_defs.specs.Names.{Stands}
-use Rattle.ig_defs.specs.Own.{File, Moment, moments_since, put_all, puts_of, reads_of}
+use Rattle.ig_defs.specs.Own.{Moment, moments_since, puts_of, reads_of}
 use Rattle.ig_space.specs.declared.place.Place.{Place}
 use Rattle.ig_meaning.specs.Refusal.{Refusal}
 use Rattle.ig_record.specs.declared.stage.Stage.{Stage}
 use Rattle.ig_record.specs.declared.stage.InfoFile.{InfoFile}
-use Rattle.ig_meaning.specs.Stage.{info_files, planned_puts, planned_reads, sequential, unfit, wanted_files}
+use Rattle.ig_cutout.specs.declared.types.Output.{Output}
+use Rattle.ig_meaning.specs.Jobs.{jobs_of, planned_puts, planned_reads, sequential, with_info, with_outputs}
+use Rattle.ig_meaning.specs.Stage.{unfit}
+use Rattle.ig_meaning.specs.Wants.{wanted_outputs}
 use Rattle.ig_meaning.specs.Plan.{stage_of}
 use Rattle.ig_meaning.specs.Making.{Making, Refused, Unfinished, Planned, New, Continues}
 use Rattle.ig_meaning.specs.Fault.{fault_of, making_of}
 use Rattle.ig_meaning.specs.Ending.{AreFirst}
 use Rattle.ig_meaning.specs.Lines.{fault_line, refusal_text}
 
--- At status 0 the files are those at entry, with the info of the new layer put and then each wanted file, which is
--- defined from the whole volume of the source in the files at entry; and nothing else changed.
+-- At status 0 the files are those at entry, with the info of the new layer put and then, at the path of each task, what is
+-- wanted, which is defined from the whole volume of the source in the files at entry; and nothing else changed.
 pub record IsCopied (words : List (List ℕ)) (old new : Log) : Type 0 where
   pub stage : Stage
   pub planned : stage_of words (files_of old) ≡ Some stage
-  pub outputs : List File
-  pub wanted : wanted_files stage (file_at (files_of old)) ≡ Some outputs
-  pub files : files_of new ≡ put_all (files_of old) (info_files stage.info ++ outputs)
+  pub outputs : List Output
+  pub wanted : wanted_outputs stage (file_at (files_of old)) ≡ Some outputs
+  pub files : files_of new ≡ with_outputs (with_info stage.info (files_of old)) outputs
 
 -- At status 0 they are also those of the sequential run of the stage's tasks, on the files at entry with the info
 -- put; and the own reads after the making are the inputs of each task, in order, each once.
@@ -30,7 +33,7 @@ pub record IsSequential (words : List (List ℕ)) (old new : Log) : Type 0 where
   pub stage : Stage
   pub after : List Moment
   pub made : making_of words (moments_since old new) ≡ Planned stage after
-  pub files : sequential stage (put_all (files_of old) (info_files stage.info)) ≡ Some (files_of new)
+  pub files : sequential (jobs_of stage) (with_info stage.info (files_of old)) ≡ Some (files_of new)
   pub reads : reads_of after ≡ planned_reads stage
 
 -- no file lies directly in the directory of any of these
@@ -47,7 +50,7 @@ pub record IsReady (words : List (List ℕ)) (files : Files) : Type 0 where
   pub no_names : AllEmpty files stage.dests
   pub fits : unfit stage ≡ None
   pub after : Files
-  pub runs : sequential stage (put_all files (info_files stage.info)) ≡ Some after
+  pub runs : sequential (jobs_of stage) (with_info stage.info files) ≡ Some after
 
 -- each own step only looks
 abbrev pub AllLook : List Moment → Type 0

@@ -1,10 +1,12 @@
 -- How a call ended, and what its own steps then are.
-use Rattle.std.specs.Prelude.{◌≡◌, ℕ, List, ◌++◌, take, Option, None, Some}
+use Rattle.std.specs.Prelude.{◌≡◌, ℕ, List, take, Option, None, Some}
 use Rattle.ig_defs.specs.Files.{Files, file_at}
 use Rattle.ig_defs.specs.Own.{File, Moment, put_all, puts_of, reads_of}
 use Rattle.ig_meaning.specs.Refusal.{Refusal}
 use Rattle.ig_record.specs.declared.stage.Stage.{Stage}
-use Rattle.ig_meaning.specs.Stage.{info_files, planned_puts, planned_reads, sequential, wanted_files}
+use Rattle.ig_cutout.specs.declared.types.Output.{Output}
+use Rattle.ig_meaning.specs.Jobs.{jobs_of, planned_puts, planned_reads, sequential, with_info, with_outputs}
+use Rattle.ig_meaning.specs.Wants.{wanted_outputs}
 use Rattle.ig_meaning.specs.Fault.{fault_of_run}
 
 pub data Ending : Type 0 where
@@ -32,11 +34,11 @@ AreAsFar (Refuses refusal) xs all = xs ≡ all
 AreAsFar StoreFailed xs all = AreFirst xs all
 AreAsFar NoMemory xs all = AreFirst xs all
 
--- With these puts the files are what they are with the stage's info and then each wanted file.
+-- With these puts the files are what they are with the stage's info and then what is wanted of it.
 pub record PutsWanted (s : Stage) (files : Files) (puts : List File) : Type 0 where
-  pub outputs : List File
-  pub wanted : wanted_files s (file_at files) ≡ Some outputs
-  pub put : put_all files puts ≡ put_all files (info_files s.info ++ outputs)
+  pub outputs : List Output
+  pub wanted : wanted_outputs s (file_at files) ≡ Some outputs
+  pub put : put_all files puts ≡ with_outputs (with_info s.info files) outputs
 
 abbrev pub IfFinished : Ending → Type 0 → Type 0
 IfFinished Finished P = P
@@ -56,5 +58,5 @@ pub record HasRun (s : Stage) (files : Files) (ms : List Moment) (ending : Endin
   pub puts : AreAsFar ending (puts_of ms) (planned_puts s files)
   pub reads : IfFinished ending (reads_of ms ≡ planned_reads s)
   pub wanted : IfFinished ending (PutsWanted s files (puts_of ms))
-  pub refused : IfRefused ending (sequential s (put_all files (info_files s.info)) ≡ None)
-  pub sequential : IfFinished ending (sequential s (put_all files (info_files s.info)) ≡ Some (put_all files (puts_of ms)))
+  pub refused : IfRefused ending (sequential (jobs_of s) (with_info s.info files) ≡ None)
+  pub sequential : IfFinished ending (sequential (jobs_of s) (with_info s.info files) ≡ Some (put_all files (puts_of ms)))

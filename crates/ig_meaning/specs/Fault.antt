@@ -11,7 +11,7 @@ use Rattle.ig_layer.specs.Faults.{or_else}
 use Rattle.ig_record.specs.declared.stage.Stage.{Stage}
 use Rattle.ig_record.specs.Columns.{inputs_of}
 use Rattle.ig_record.specs.Stage.{task_count}
-use Rattle.ig_meaning.specs.Stage.{task_refusal}
+use Rattle.ig_meaning.specs.Task.{task_refusal}
 use Rattle.ig_meaning.specs.Making.{Making, Refused, Unfinished, Planned, New, Continues, making_of_copy}
 use Rattle.ig_meaning.specs.QueueMaking.{making_of_enqueue}
 use Rattle.ig_meaning.specs.Words.{Command, Copy, Enqueue, command_of}

@@ -16,7 +16,7 @@ use Rattle.ig_rule.specs.Stages.{task_id}
 use Rattle.ig_record.specs.declared.stage.Stage.{Stage}
 use Rattle.ig_record.specs.Record.{record_text, task_text}
 use Rattle.ig_record.specs.Stage.{task_count}
-use Rattle.ig_meaning.specs.Stage.{info_files}
+use Rattle.ig_meaning.specs.Jobs.{info_files}
 use Rattle.ig_meaning.specs.Making.{Making, Refused, Unfinished, Planned, New, Continues}
 use Rattle.ig_meaning.specs.QueueMaking.{record_path, seal_path}
 

@@ -1,118 +1,166 @@
--- The tasks of a copy, run one after the other, leave exactly the wanted files of the whole layer.
-use Rattle.std.specs.Prelude.{◌≡◌, ◌<◌, ℕ, List, ◌++◌, Option, Some}
-use Rattle.std.proofs.Common.{ap, sym, subst, ◌∙◌}
-use Rattle.std.proofs.lemmas.Option.{same_Some}
-use Rattle.std.specs.List.{Contains}
-use Rattle.ig_space.specs.declared.place.Place.{Place}
-use Rattle.ig_space.specs.Chunk.{chunk_path}
-use Rattle.ig_space.specs.Grid.{cell, cell_count, chunks_of, hull}
-use Rattle.ig_space.specs.CellBoxes.{chunks-IsGrid, covered}
+-- The tasks of a stage, run one after the other, leave exactly what is wanted of the whole volume.
+use Rattle.std.specs.Prelude.{◌≡◌, ◌<◌, ◌≤◌, ℕ, zero, suc, Bool, true, false, List, [], ◌∷◌, ◌++◌, Option, None, Some, Contains, map, option_map, refl}
+use Rattle.std.proofs.Common.{arith, ap, sym, subst, ◌∙◌, append_assoc, append-nil}
+use Rattle.std.proofs.lemmas.Option.{none-some, same_Some}
+use Rattle.ig_space.specs.Chunks.{listed}
 use Rattle.ig_defs.specs.Files.{Files, file_at}
-use Rattle.ig_defs.specs.Own.{File, put_all}
-use Rattle.ig_defs.specs.Puts.{HasOnePerPath, file_at-other, put_all-append, put_all-same}
-use Rattle.ig_layer.specs.ChunkFiles.{IsChunkFile, chunk_files-apart, chunk_files-one, files_in-chunks}
-use Rattle.ig_layer.specs.Layer.{volume_at}
-use Rattle.ig_layer.specs.Listed.{IsListed, all_listed-each, all_listed-from, all_listed-has}
-use Rattle.ig_layer.specs.SameVolume.{FindsSame, volume_at-same}
-use Rattle.ig_layer.specs.Texts.{chunk_file, files_in, layer_files}
-use Rattle.ig_meaning.specs.Copies.{IsCopy, IsElsewhere}
-use Rattle.ig_meaning.specs.Made.{IsMadeBy, Left, MakesNoSource, run_tasks-left, task_files-layer, wanted_files-layer}
-use Rattle.ig_meaning.specs.TaskBoxes.{space_of-dest, task_box-within_dest, task_grid-IsGrid}
-use Rattle.ig_record.specs.declared.stage.Stage.{Stage}
+use Rattle.ig_defs.specs.Puts.{file_at-other}
+use Rattle.ig_layer.specs.Layer.{Labels, Reading, volume_at}
+use Rattle.ig_cutout.specs.declared.types.Output.{Output}
 use Rattle.ig_record.specs.declared.stage.InfoFile.{InfoFile}
-use Rattle.ig_record.specs.Stage.{task_box, task_count, task_grid}
-use Rattle.ig_meaning.specs.Stage.{info_files, sequential, wanted_files, wanted_volume}
+use Rattle.ig_record.specs.declared.stage.Stage.{Stage}
+use Rattle.ig_record.specs.Columns.{inputs_of, paths_of, scratch_read}
+use Rattle.ig_record.specs.Sound.{is_sound}
+use Rattle.ig_record.specs.SoundStages.{IsSound-from}
+use Rattle.ig_record.specs.Stage.{task_count}
+use Rattle.ig_rule.specs.QueueSteps.{file_at-kept}
+use Rattle.ig_meaning.specs.Agreeing.{AgreeOn, further, here, made-fine, task_outputs-agrees}
+use Rattle.ig_meaning.specs.JobLaws.{ran-next, ran_first, with_outputs-append}
+use Rattle.ig_meaning.specs.Jobs.{Ran, job_of, jobs_of, run_on, sequential, with_info, with_outputs, with_task, with_text}
+use Rattle.ig_meaning.specs.Lasting.{KeepsChunksOf, outputs-last, volume-lasts, within-keeps}
+use Rattle.ig_meaning.specs.Task.{labels_given, task_outputs}
+use Rattle.ig_meaning.specs.Wants.{Want, flattened, is_chunk_of, output_by, outputs_at, put_at, removal_of, scratch_text, text_by, wanted_outputs, wants_by, with_first}
 
--- the volume that is wanted of these files
-abbrev pub wanted_of : Stage → Files → ℕ → ℕ → ℕ → Option ℕ
-wanted_of s files = wanted_volume s.kind (volume_at (file_at files) s.source)
+-- ---- one task
+-- The texts of earlier passes that it is given are those that these want.
+abbrev pub HasScratch : Stage → ℕ → Reading → Type 0
+HasScratch s k given = AgreeOn (scratch_read s.kind s k) given (scratch_text s given)
 
-module _ (s : Stage) (dest : Place) (info : InfoFile) (copy : IsCopy s dest info) (elsewhere : IsElsewhere s dest info) where
-  -- ---- what they make
-  -- a task makes files of chunks of the layer
-  pub task-chunks : (files : Files) (f : File) → IsMadeBy s files (task_count s) f → IsChunkFile dest (wanted_of s files) f
-  task-chunks files f m =
-      files_in-chunks dest copy.dest_fits (wanted_of s files) (task_box s m.task) (task_box-within_dest s dest info copy m.task m.below) m.made
-      (sym (task_files-layer s dest copy.dests m.task (file_at files)) ∙ m.is) f m.among
+-- What a task makes is what is wanted at its paths of the whole volume.
+pub task-wanted : (s : Stage) (k : ℕ) (given : Reading) (outputs : List Output) → HasScratch s k given → task_outputs s k given ≡ Some outputs
+    → outputs_at s (volume_at given s.source) (paths_of s k) ≡ Some outputs
+task-wanted s k given outputs scratch made =
+    outputs-last s (labels_given s k given) (volume_at given s.source) (within-keeps s k given) (paths_of s k) outputs (made-fine s k given outputs made).1
 
-  -- and so none of the source
-  pub task-no_source : (files : Files) → MakesNoSource s files (task_count s)
-  task-no_source files f m b box = chunk_files-apart dest copy.dest_fits (wanted_of s files) s.source.dir elsewhere.apart b box f (task-chunks files f m)
+-- ---- outputs
+at_paths : (s : Stage) (volume : Labels) (path : List ℕ) (want : Option Want) (output : Output) → output_by volume path want ≡ Some output → output.path ≡ path
+at_paths s volume path None output e = ap (λ (o : Output). o.path) (sym (same_Some (removal_of path) output e))
+at_paths s volume path (Some want) output e = by_text (text_by volume (Some want)) e
+  where
+    by_text : (text : Option (List ℕ)) → option_map (put_at path) text ≡ Some output → output.path ≡ path
+    by_text None e = absurd (none-some output e)
+    by_text (Some text) e = ap (λ (o : Output). o.path) (sym (same_Some (put_at path text) output e))
 
-  -- what they leave
-  pub sequential-left : (files after : Files) → sequential s files ≡ Some after → Left s files (task_count s) after
-  sequential-left files after e = run_tasks-left s copy.source_fits files (task_count s) after (task-no_source files) e
+pub record IsFirst {A : Type 0} (first : Option A) (rest : Option (List A)) (all : List A) : Type 0 where
+  pub head : A
+  pub tail : List A
+  pub first_is : first ≡ Some head
+  pub rest_is : rest ≡ Some tail
+  pub are : head ∷ tail ≡ all
 
-  -- ---- what the layer wants
-  -- the file of the chunk with this number, if it is defined
-  abbrev pub wanted_chunk : Files → ℕ → Option File
-  wanted_chunk files k = chunk_file dest (wanted_of s files) (cell (chunks_of dest.geometry) k)
+pub first-from : {A : Type 0} (first : Option A) (rest : Option (List A)) (all : List A) → with_first first rest ≡ Some all → IsFirst first rest all
+first-from None rest all e = absurd (none-some all e)
+first-from (Some x) None all e = absurd (none-some all e)
+first-from (Some x) (Some xs) all e = record { head = x; tail = xs; first_is = refl; rest_is = refl; are = same_Some (x ∷ xs) all e }
 
-  -- each chunk of the layer was put
-  pub chunk-made : (files after : Files) (l : Left s files (task_count s) after) (j : ℕ) → j < cell_count (chunks_of dest.geometry)
-      → IsListed (wanted_chunk files) j l.outputs
-  chunk-made files after l j below =
-      let g = chunks_of dest.geometry in
-      let volume = wanted_of s files in
-      let c = covered g (task_grid s) (chunks-IsGrid dest.geometry copy.dest_fits) (task_grid-IsGrid s dest info copy) (space_of-dest s dest info copy) j below in
-      let m = l.each c.part c.part_below in
-      let h = hull g (task_box s c.part) in
-      let is : files_in dest volume (task_box s c.part) ≡ Some m.made = sym (task_files-layer s dest copy.dests c.part (file_at files)) ∙ m.is in
-      let v = all_listed-has (λ k. chunk_file dest volume (cell h k)) (cell_count h) m.made is c.number c.below in
-      record { value = v.value; is = ap (chunk_file dest volume) (sym c.is) ∙ v.is; among = m.among v.value v.among }
+-- the outputs are at these paths, in order
+pub outputs_at-paths : (s : Stage) (volume : Labels) (paths : List (List ℕ)) (outputs : List Output) → outputs_at s volume paths ≡ Some outputs → map (λ (o : Output). o.path) outputs ≡ paths
+outputs_at-paths s volume [] outputs e = ap (map (λ (o : Output). o.path)) (sym (same_Some [] outputs e))
+outputs_at-paths s volume (path ∷ paths) outputs e =
+    let f = first-from (output_by volume path (wants_by s.kind s path)) (outputs_at s volume paths) outputs e in
+    ap (map (λ (o : Output). o.path)) (sym f.are) ∙ ap (λ p. p ∷ map (λ (o : Output). o.path) f.tail) (at_paths s volume path (wants_by s.kind s path) f.head f.first_is)
+    ∙ ap (λ rest. path ∷ rest) (outputs_at-paths s volume paths f.tail f.rest_is)
 
-  -- so all files of the layer are defined
-  pub sequential-defined : (files after : Files) → Left s files (task_count s) after → (outputs : List File) × (layer_files dest (wanted_of s files) ≡ Some outputs)
-  sequential-defined files after l =
-      all_listed-each (wanted_chunk files) (cell_count (chunks_of dest.geometry)) (λ j below. let v = chunk-made files after l j below in (v.value, v.is))
+pub outputs_at-append : (s : Stage) (volume : Labels) (paths more : List (List ℕ)) (xs ys : List Output) → outputs_at s volume paths ≡ Some xs → outputs_at s volume more ≡ Some ys
+    → outputs_at s volume (paths ++ more) ≡ Some (xs ++ ys)
+outputs_at-append s volume [] more xs ys e f = f ∙ ap (λ first. Some (first ++ ys)) (same_Some [] xs e)
+outputs_at-append s volume (path ∷ paths) more xs ys e f =
+    let h = first-from (output_by volume path (wants_by s.kind s path)) (outputs_at s volume paths) xs e in
+    ap (with_first (output_by volume path (wants_by s.kind s path))) (outputs_at-append s volume paths more h.tail ys h.rest_is f)
+    ∙ ap (λ first. with_first first (Some (h.tail ++ ys))) h.first_is ∙ ap (λ first. Some (first ++ ys)) h.are
 
-  -- each wanted file is that of a chunk
-  pub wanted-chunks : (files : Files) (outputs : List File) → layer_files dest (wanted_of s files) ≡ Some outputs
-      → (f : File) → Contains outputs f → IsChunkFile dest (wanted_of s files) f
-  wanted-chunks files outputs is f h = all_listed-from (wanted_chunk files) (cell_count (chunks_of dest.geometry)) outputs is f h
+text-apart : (now : Files) (at : List ℕ) (text : Option (List ℕ)) (path : List ℕ) → (path ≡ at → ⊥) → file_at (with_text now at text) path ≡ file_at now path
+text-apart now at (Some bytes) path apart = file_at-other now path at bytes apart
+text-apart now at None path apart = file_at-kept now path at apart
 
-  -- each file that was put is wanted
-  pub put-wanted : (files after : Files) (l : Left s files (task_count s) after) (outputs : List File) → layer_files dest (wanted_of s files) ≡ Some outputs
-      → (f : File) → Contains l.outputs f → Contains outputs f
-  put-wanted files after l outputs is f h =
-      let v = task-chunks files f (l.only f h) in
-      let w = all_listed-has (wanted_chunk files) (cell_count (chunks_of dest.geometry)) outputs is v.number v.below in
-      subst (Contains outputs) (same_Some w.value f (sym w.is ∙ v.is)) w.among
+-- at other paths the files stay
+pub outputs-apart : (now : Files) (outputs : List Output) (path : List ℕ) → (Contains (map (λ (o : Output). o.path) outputs) path → ⊥) → file_at (with_outputs now outputs) path ≡ file_at now path
+outputs-apart now [] path apart = refl
+outputs-apart now (output ∷ outputs) path apart =
+    outputs-apart (with_text now output.path output.text) outputs path (λ h. apart (further output.path path (map (λ (o : Output). o.path) outputs) h))
+    ∙ text-apart now output.path output.text path
+    (λ same. apart (subst (λ p. Contains (output.path ∷ map (λ (o : Output). o.path) outputs) p) (sym same) (here output.path (map (λ (o : Output). o.path) outputs))))
 
-  -- and each that is wanted was put
-  pub wanted-put : (files after : Files) (l : Left s files (task_count s) after) (outputs : List File) → layer_files dest (wanted_of s files) ≡ Some outputs
-      → (f : File) → Contains outputs f → Contains l.outputs f
-  wanted-put files after l outputs is f h =
-      let v = wanted-chunks files outputs is f h in
-      let w = chunk-made files after l v.number v.below in
-      subst (Contains l.outputs) (same_Some w.value f (sym w.is ∙ v.is)) w.among
+flattened-append : {A : Type 0} (xss yss : List (List A)) → flattened (xss ++ yss) ≡ flattened xss ++ flattened yss
+flattened-append [] yss = refl
+flattened-append (xs ∷ xss) yss = ap (λ rest. xs ++ rest) (flattened-append xss yss) ∙ sym (append_assoc xs (flattened xss) (flattened yss))
 
-  -- so to put these leaves the same
-  pub sequential-puts : (files after : Files) → Left s files (task_count s) after → (outputs : List File) → layer_files dest (wanted_of s files) ≡ Some outputs
-      → put_all files outputs ≡ after
-  sequential-puts files after l outputs is =
-      let chunk = wanted-chunks files outputs is in
-      let one : HasOnePerPath outputs = λ f g h k e. chunk_files-one dest copy.dest_fits (wanted_of s files) f g (chunk f h) (chunk g k) e in
-      sym (put_all-same files l.outputs outputs one (put-wanted files after l outputs is) (wanted-put files after l outputs is)) ∙ l.puts
+-- one list more
+pub flattened-next : {A : Type 0} (f : ℕ → List A) (n : ℕ) → flattened (listed f (suc n)) ≡ flattened (listed f n) ++ f n
+flattened-next f n = flattened-append (listed f n) (f n ∷ []) ∙ ap (λ last. flattened (listed f n) ++ last) (append-nil (f n))
 
-  -- ---- once the info was put
-  -- it is no chunk of the source
-  pub info-same : (files : Files) → FindsSame s.source.dir (file_at files) (file_at (put_all files (info_files s.info)))
-  info-same files b box =
-      let path = chunk_path s.source.dir b in
-      sym (ap (λ (i : Option InfoFile). file_at (put_all files (info_files i)) path) copy.has_info
-      ∙ file_at-other files path info.path info.text (λ e. elsewhere.info_apart b box (sym e)))
+-- ---- all tasks
+-- No task makes, or takes away, an input of a task of the stage, nor is its info one.
+pub record IsElsewhere (s : Stage) : Type 0 where
+  pub outputs : (j k : ℕ) (path : List ℕ) → j < task_count s → k < task_count s → Contains (paths_of s j) path → Contains (inputs_of s k) path → ⊥
+  pub info : (info : InfoFile) → s.info ≡ Some info → (k : ℕ) → k < task_count s → Contains (inputs_of s k) info.path → ⊥
+  pub no_chunk : (info : InfoFile) → s.info ≡ Some info → is_chunk_of s.source info.path ≡ true → ⊥
 
--- The tasks of a copy, run one after the other once its info was put, leave exactly the wanted files of the whole layer.
-pub sequential-wanted : (s : Stage) (dest : Place) (info : InfoFile) → IsCopy s dest info → IsElsewhere s dest info → (files after : Files)
-    → sequential s (put_all files (info_files s.info)) ≡ Some after
-    → (outputs : List File) × (wanted_files s (file_at files) ≡ Some outputs) × (put_all files (info_files s.info ++ outputs) ≡ after)
-sequential-wanted s dest info copy elsewhere files after ran =
-    let begun = put_all files (info_files s.info) in
-    let left = sequential-left s dest info copy elsewhere begun after ran in
-    let defined = sequential-defined s dest info copy elsewhere begun after left in
-    let same : volume_at (file_at files) s.source ≡ volume_at (file_at begun) s.source
-    = volume_at-same (file_at files) (file_at begun) s.source copy.source_fits (info-same s dest info copy elsewhere files) in
-    let wanted : wanted_files s (file_at files) ≡ Some defined.0
-    = wanted_files-layer s dest copy.dests (file_at files) ∙ ap (λ (volume : ℕ → ℕ → ℕ → Option ℕ). layer_files dest (wanted_volume s.kind volume)) same ∙ defined.1 in
-    (defined.0, wanted, put_all-append files (info_files s.info) defined.0 ∙ sequential-puts s dest info copy elsewhere begun after left defined.0 defined.1)
+-- What the first n tasks left: at their paths what is wanted of the files before the first; and their inputs are as they were.
+record Left (s : Stage) (files : Files) (n : ℕ) (now : Files) : Type 0 where
+  outputs : List Output
+  are : outputs_at s (volume_at (file_at files) s.source) (flattened (listed (paths_of s) n)) ≡ Some outputs
+  left : with_outputs files outputs ≡ now
+  same : (k : ℕ) → k < task_count s → AgreeOn (inputs_of s k) (file_at now) (file_at files)
+
+record Step (s : Stage) (n : ℕ) (before : Option Files) (after : Files) : Type 0 where
+  now : Files
+  made : List Output
+  before_is : before ≡ Some now
+  is : task_outputs s n (file_at now) ≡ Some made
+  left : with_outputs now made ≡ after
+
+step_by : (s : Stage) (n : ℕ) (changes : List Output) (now after : Files) (made : Option (List Output)) → task_outputs s n (file_at now) ≡ made
+    → (with_task changes now made).files ≡ Some after → Step s n (Some now) after
+step_by s n changes now after None is e = absurd (none-some after e)
+step_by s n changes now after (Some made) is e = record { now = now; made = made; before_is = refl; is = is; left = same_Some _ _ e }
+
+step_of : (s : Stage) (n : ℕ) (changes : List Output) (before : Option Files) (after : Files) → (run_on (job_of s n) changes before).files ≡ Some after → Step s n before after
+step_of s n changes None after e = absurd (none-some after e)
+step_of s n changes (Some now) after e = step_by s n changes now after (task_outputs s n (file_at now)) refl e
+
+module _ (s : Stage) (sound : is_sound s ≡ true) (elsewhere : IsElsewhere s) (files : Files) (scratch : (k : ℕ) → k < task_count s → HasScratch s k (file_at files)) where
+  abbrev volume : Labels
+  volume = volume_at (file_at files) s.source
+
+  step : (n : ℕ) (before : Option Files) (after : Files) → n < task_count s → ((now : Files) → before ≡ Some now → Left s files n now) → Step s n before after → Left s files (suc n) after
+  step n before after below earlier t =
+      let l = earlier t.now t.before_is in
+      let is : task_outputs s n (file_at files) ≡ Some t.made = sym (task_outputs-agrees s n (file_at t.now) (file_at files) (l.same n below) sound below) ∙ t.is in
+      let made : outputs_at s volume (paths_of s n) ≡ Some t.made = task-wanted s n (file_at files) t.made (scratch n below) is in
+      let paths = outputs_at-paths s volume (paths_of s n) t.made made in
+      record {
+        outputs = l.outputs ++ t.made;
+        are = ap (outputs_at s volume) (flattened-next (paths_of s) n) ∙ outputs_at-append s volume (flattened (listed (paths_of s) n)) (paths_of s n) l.outputs t.made l.are made;
+        left = with_outputs-append files l.outputs t.made ∙ ap (λ now. with_outputs now t.made) l.left ∙ t.left;
+        same = λ k few path among.
+            ap (λ now. file_at now path) (sym t.left)
+            ∙ outputs-apart t.now t.made path (λ h. elsewhere.outputs n k path below few (subst (λ ps. Contains ps path) paths h) among)
+            ∙ l.same k few path among;
+      }
+
+  left-first : (n : ℕ) (now : Files) → n ≤ task_count s → (ran_first s files n).files ≡ Some now → Left s files n now
+  left-first zero now few e = record { outputs = []; are = refl; left = same_Some _ _ e; same = λ k below path among. ap (λ now. file_at now path) (sym (same_Some _ _ e)) }
+  left-first (suc n) now few e =
+      let ran = ran_first s files n in
+      step n ran.files now few (λ before is. left-first n before (omega (arith, few)) is)
+      (step_of s n ran.changes ran.files now (ap (λ (r : Ran). r.files) (sym (ran-next s files n)) ∙ e))
+
+-- ---- once the info was put
+info-same_by : (o : Option InfoFile) (files : Files) (path : List ℕ) → ((info : InfoFile) → o ≡ Some info → path ≡ info.path → ⊥) → file_at (with_info o files) path ≡ file_at files path
+info-same_by None files path apart = refl
+info-same_by (Some info) files path apart = file_at-other files path info.path info.text (apart info refl)
+
+info-same : (s : Stage) → IsElsewhere s → (files : Files) (path : List ℕ) → is_chunk_of s.source path ≡ true → file_at (with_info s.info files) path ≡ file_at files path
+info-same s elsewhere files path chunk = info-same_by s.info files path (λ info is same. elsewhere.no_chunk info is (subst (λ p. is_chunk_of s.source p ≡ true) same chunk))
+
+-- The tasks of a stage, run one after the other once its info was put, leave exactly what is wanted of it.
+pub sequential-wanted : (s : Stage) → is_sound s ≡ true → IsElsewhere s → (files after : Files) → ((k : ℕ) → k < task_count s → HasScratch s k (file_at (with_info s.info files)))
+    → sequential (jobs_of s) (with_info s.info files) ≡ Some after
+    → (outputs : List Output) × (wanted_outputs s (file_at files) ≡ Some outputs) × (with_outputs (with_info s.info files) outputs ≡ after)
+sequential-wanted s sound elsewhere files after scratch ran =
+    let first = with_info s.info files in
+    let l = left-first s sound elsewhere first scratch (task_count s) after (omega arith) ran in
+    let keeps : KeepsChunksOf s.source (file_at first) (file_at files) = λ path bytes chunk e. sym (info-same s elsewhere files path chunk) ∙ e in
+    let lasts = volume-lasts s.source (IsSound-from s sound).fits (file_at first) (file_at files) keeps in
+    (l.outputs, outputs-last s (volume_at (file_at first) s.source) (volume_at (file_at files) s.source) lasts (flattened (listed (paths_of s) (task_count s))) l.outputs l.are, l.left)

@@ -1,57 +1,22 @@
--- Laws on the boxes of the tasks of a copy: they lie in both layers, have whole chunks of the new one, and few voxels.
-use Rattle.std.specs.Prelude.{◌≡◌, ℕ, zero, suc, ◌==◌, ◌+◌, ◌-◌, ◌*◌, ◌/◌, ◌%◌, ◌^◌, ◌<◌, ◌≤◌, Bool, true, false, if◌then◌else◌, [], ◌∷◌, Option, None, Some, option_map}
+-- Laws on the boxes of the tasks of a stage: they have whole chunks of a scale whose chunks the shape is made of, and few voxels.
+use Rattle.std.specs.Prelude.{◌≡◌, ℕ, zero, suc, ◌==◌, ◌+◌, ◌-◌, ◌*◌, ◌/◌, ◌%◌, ◌^◌, ◌<◌, ◌≤◌, Bool, true, false, if◌then◌else◌, Option, None, Some}
 use Rattle.std.proofs.Common.{arith, ap, sym, ◌∙◌, refl, ◌⊎◌, inl, inr, subst}
 use Rattle.std.proofs.Math.Nat.{div-add-mod', div-lt_iff_lt-mul, mul-le-mul_right, mul-le-mul, mul-div_cancel}
-use Rattle.std.proofs.lemmas.Bool.{cases_lt, eqb-true, leb-true}
+use Rattle.std.proofs.lemmas.Bool.{cases_lt, eqb-true}
 use Rattle.ig_space.specs.declared.point.Point.{Point}
 use Rattle.ig_space.specs.declared.point.Box3.{Box3}
 use Rattle.ig_space.specs.declared.geometry.Geometry.{Geometry}
 use Rattle.ig_space.specs.declared.geometry.Grid.{Grid}
-use Rattle.ig_space.specs.declared.place.Place.{Place}
 use Rattle.ig_space.specs.Geometry.{count, geometry_fits}
 use Rattle.ig_space.specs.Grid.{IsGrid, IsWithin, cell, cell_count, cell_of, chunks_of, counts, high_along, hull, index_along, low_along, point_at, size_of, space_of}
 use Rattle.ig_space.specs.Cells.{cell-within}
 use Rattle.ig_space.specs.CellBoxes.{chunks-IsGrid}
 use Rattle.ig_space.specs.Hulls.{IsPart, hull_high, hull_high-above, hull_low, hull_low-below, part-x, part-y, part-z}
-use Rattle.ig_layer.specs.Faults.{or_else}
-use Rattle.ig_meaning.specs.Refusal.{ShapeUnfit}
 use Rattle.ig_record.specs.declared.stage.Stage.{Stage}
-use Rattle.ig_record.specs.declared.stage.Kind.{Kind}
-use Rattle.ig_record.specs.declared.stage.InfoFile.{InfoFile}
-use Rattle.ig_record.specs.SoundStages.{tasks-IsGrid}
-use Rattle.ig_record.specs.Stage.{cells, greatest, hull_voxels, most_tasks, most_voxels, shape_unit, task_box, task_count, task_grid, task_size, unfit_axis}
-use Rattle.ig_meaning.specs.Stage.{too_large_task, too_many_tasks, unfit_shape}
-use Rattle.ig_meaning.specs.Copies.{IsCopy}
+use Rattle.ig_record.specs.SoundStages.{IsSound, tasks-IsGrid}
+use Rattle.ig_record.specs.Stage.{cells, greatest, hull_voxels, task_box, task_count, task_grid, task_size, unfit_axis}
 
--- ---- the grids
--- the box of a copy's task is of the shape
-pub copy-size : (s : Stage) (dest : Place) (info : InfoFile) → IsCopy s dest info → task_size s.kind s ≡ s.shape
-copy-size s dest info c = ap (λ (kind : Kind). task_size kind s) c.kind
-
-pub task_grid-IsGrid : (s : Stage) (dest : Place) (info : InfoFile) → IsCopy s dest info → IsGrid (task_grid s)
-task_grid-IsGrid s dest info c = tasks-IsGrid s c.source_fits (record { x = c.shape.0; y = c.shape.1; z = c.shape.2 })
-
--- both layers have one space
-pub space_of-dest : (s : Stage) (dest : Place) (info : InfoFile) → IsCopy s dest info → space_of s.source.geometry ≡ space_of dest.geometry
-space_of-dest s dest info c =
-    let space : Point → Point → Box3 = λ offset size. record { lo = offset; hi = record { x = offset.x + size.x; y = offset.y + size.y; z = offset.z + size.z } } in
-    ap (λ offset. space offset s.source.geometry.size) (sym c.offset) ∙ ap (space dest.geometry.offset) (sym c.size)
-
-pub task_box-within : (s : Stage) (dest : Place) (info : InfoFile) → IsCopy s dest info → (k : ℕ) → k < task_count s → IsWithin (task_box s k) (space_of s.source.geometry)
-task_box-within s dest info c k below = cell-within (task_grid s) (task_grid-IsGrid s dest info c) k below
-
-pub task_box-within_dest : (s : Stage) (dest : Place) (info : InfoFile) → IsCopy s dest info → (k : ℕ) → k < task_count s → IsWithin (task_box s k) (space_of dest.geometry)
-task_box-within_dest s dest info c k below = subst (IsWithin (task_box s k)) (space_of-dest s dest info c) (task_box-within s dest info c k below)
-
--- ---- what a stage that can be run has
-or_else-none : {A : Type 0} (a b : Option A) → or_else a b ≡ None → (a ≡ None) × (b ≡ None)
-or_else-none None b none = (refl, none)
-or_else-none (Some x) b none = absurd (cc)
-
-option_map-none : {A B : Type 0} (f : A → B) (a : Option A) → option_map f a ≡ None → a ≡ None
-option_map-none f None none = refl
-option_map-none f (Some x) none = absurd (cc)
-
+-- ---- shapes
 abbrev axis_of : Bool → Bool → Bool → Option ℕ
 axis_of x y z = if x then (if y then (if z then None else Some 2) else Some 1) else Some 0
 
@@ -60,10 +25,6 @@ all_whole true true true none = (refl, refl, refl)
 all_whole true true false none = absurd (cc)
 all_whole true false z none = absurd (cc)
 all_whole false y z none = absurd (cc)
-
-if_allowed : {A : Type 0} (b : Bool) (x : A) → (if b then None else Some x) ≡ None → b ≡ true
-if_allowed true x none = refl
-if_allowed false x none = absurd (cc)
 
 -- each side of the shape is a multiple of the chunk's
 pub record IsWhole (unit shape : Point) : Type 0 where
@@ -75,19 +36,6 @@ pub unfit_axis-none : (unit shape : Point) → unfit_axis unit shape ≡ None �
 unfit_axis-none unit shape none =
     let all = all_whole (shape.x % unit.x == 0) (shape.y % unit.y == 0) (shape.z % unit.z == 0) none in
     record { x = eqb-true _ _ all.0; y = eqb-true _ _ all.1; z = eqb-true _ _ all.2 }
-
-shape-whole : (s : Stage) (dest : Place) (info : InfoFile) → IsCopy s dest info → IsWhole dest.geometry.chunk (task_size s.kind s)
-shape-whole s dest info c =
-    let no_shape = option_map-none ShapeUnfit _ (or_else-none (unfit_shape s) _ c.fit).0 in
-    let unit : shape_unit s.kind s.source s.dests ≡ dest.geometry.chunk = ap (shape_unit s.kind s.source) c.dests ∙ ap (λ (kind : Kind). shape_unit kind s.source (dest ∷ [])) c.kind in
-    let shape = subst (λ unit. IsWhole unit s.shape) unit (unfit_axis-none (shape_unit s.kind s.source s.dests) s.shape no_shape) in
-    subst (IsWhole dest.geometry.chunk) (sym (copy-size s dest info c)) shape
-
-pub task_count-few : (s : Stage) (dest : Place) (info : InfoFile) → IsCopy s dest info → task_count s ≤ 1000000
-task_count-few s dest info c =
-    let no_count = (or_else-none (too_many_tasks s) (too_large_task s) (or_else-none (unfit_shape s) _ c.fit).1).0 in
-    let few = leb-true (cell_count (cells s)) most_tasks (if_allowed _ _ no_count) in
-    subst (λ (step : Point). cell_count (record { space = space_of s.source.geometry; step = step }) ≤ 1000000) (sym (copy-size s dest info c)) few
 
 greatest-once : (f : ℕ → ℕ) (n k : ℕ) → k < suc n → (k < n → f k ≤ greatest f n) → (k < n) ⊎ (n ≤ k) → f k ≤ greatest f (suc n)
 greatest-once f n k below before (inl less) = omega (arith, before less)
@@ -103,14 +51,12 @@ greatest-above f (suc n) k below = greatest-once f n k below (greatest-above f n
 abbrev met_by : Stage → Point → ℕ → ℕ
 met_by s step k = count (size_of (hull (chunks_of s.source.geometry) (cell (record { space = space_of s.source.geometry; step = step }) k)).space)
 
-pub task_hull-few : (s : Stage) (dest : Place) (info : InfoFile) → IsCopy s dest info → (k : ℕ) → k < task_count s
-    → count (size_of (hull (chunks_of s.source.geometry) (task_box s k)).space) ≤ 2 ^ 24
-task_hull-few s dest info c k below =
-    let no_size = (or_else-none (too_many_tasks s) (too_large_task s) (or_else-none (unfit_shape s) _ c.fit).1).1 in
+-- where the boxes of tasks are those of the shape, each meets chunks of few voxels
+pub task_hull-few : (s : Stage) → IsSound s → task_size s.kind s ≡ s.shape → (k : ℕ) → k < task_count s → count (size_of (hull (chunks_of s.source.geometry) (task_box s k)).space) ≤ 2 ^ 24
+task_hull-few s h size k below =
     let n = cell_count (cells s) in
-    let few : greatest (hull_voxels s) n ≤ most_voxels = leb-true (greatest (hull_voxels s) n) most_voxels (if_allowed _ _ no_size) in
-    let each : k < n → met_by s s.shape k ≤ 2 ^ 24 = λ less. let most = greatest-above (hull_voxels s) n k less in omega (arith, few, most) in
-    subst (λ (step : Point). k < cell_count (record { space = space_of s.source.geometry; step = step }) → met_by s step k ≤ 2 ^ 24) (sym (copy-size s dest info c)) each below
+    let each : k < n → met_by s s.shape k ≤ 2 ^ 24 = λ less. let most = greatest-above (hull_voxels s) n k less in omega (arith, h.light, most) in
+    subst (λ (step : Point). k < cell_count (record { space = space_of s.source.geometry; step = step }) → met_by s step k ≤ 2 ^ 24) (sym size) each below
 
 -- ---- one axis: steps of whole chunks
 -- a part of the side from a cell of whole chunks on begins with a chunk
@@ -158,12 +104,6 @@ task_box-whole s g tasks fits same whole k below =
     let aligned = cell-aligned (space_of s.source.geometry) g.chunk (task_size s.kind s) (point_at (counts (task_grid s)) k) whole grid (cell-within (task_grid s) tasks k below) in
     subst (λ space. (hull (record { space = space; step = g.chunk }) (task_box s k)).space ≡ task_box s k) (sym same) aligned
 
--- a task's box is made of whole chunks of the new layer
-pub task_box-aligned : (s : Stage) (dest : Place) (info : InfoFile) → IsCopy s dest info → (k : ℕ) → k < task_count s
-    → (hull (chunks_of dest.geometry) (task_box s k)).space ≡ task_box s k
-task_box-aligned s dest info c k below =
-    task_box-whole s dest.geometry (task_grid-IsGrid s dest info c) c.dest_fits (sym (space_of-dest s dest info c)) (shape-whole s dest info c) k below
-
 -- ---- few voxels
 size-few : (a b : Box3) → IsWithin a b → count (size_of a) ≤ count (size_of b)
 size-few a b h = mul-le-mul (omega (arith, h.x_from, h.x_to)) (mul-le-mul (omega (arith, h.y_from, h.y_to)) (omega (arith, h.z_from, h.z_to)))
@@ -181,11 +121,11 @@ hull-around g a grid within = record {
   z_to = hull_high-above g.space.lo.z g.space.hi.z g.step.z a.lo.z a.hi.z (part-z g a grid within);
 }
 
-pub task_box-few : (s : Stage) (dest : Place) (info : InfoFile) → IsCopy s dest info → (k : ℕ) → k < task_count s → count (size_of (task_box s k)) ≤ 2 ^ 24
-task_box-few s dest info c k below =
+pub task_box-few : (s : Stage) → IsSound s → task_size s.kind s ≡ s.shape → (k : ℕ) → k < task_count s → count (size_of (task_box s k)) ≤ 2 ^ 24
+task_box-few s h size k below =
     let g = chunks_of s.source.geometry in
     let b = task_box s k in
-    let grid = chunks-IsGrid s.source.geometry c.source_fits in
-    let around = hull-around g b grid (task_box-within s dest info c k below) in
+    let grid = chunks-IsGrid s.source.geometry h.fits in
+    let around = hull-around g b grid (cell-within (task_grid s) (tasks-IsGrid s h.fits h.shape.sides) k below) in
     let less = size-few b (hull g b).space around in
-    omega (arith, less, task_hull-few s dest info c k below)
+    omega (arith, less, task_hull-few s h size k below)

@@ -1,35 +1,43 @@
 -- What a task makes of what was found of its inputs.
-use Rattle.std.proofs.Common.{arith, ◌≡◌, ◌≢◌, ℕ, zero, suc, Bool, true, false, if◌then◌else◌, List, [], ◌∷◌, ◌++◌, Option, None, Some, is_none, option_map, map, refl, sym, ap, subst, true≢false, ◌∙◌}
-use Rattle.std.proofs.lemmas.List.{append-nil}
+use Rattle.std.proofs.Common.{arith, ◌≡◌, ◌≢◌, ◌<◌, ◌≤◌, ◌+◌, ℕ, zero, suc, Bool, true, false, if◌then◌else◌, List, [], ◌∷◌, ◌++◌, Option, None, Some, is_none, option_map, option_and_then, map, refl, sym, ap, subst, true≢false, ◌∙◌}
+use Rattle.std.proofs.lemmas.Option.{none-some, same_Some}
+use Rattle.ig_space.specs.declared.point.Box3.{Box3}
 use Rattle.ig_space.specs.declared.place.Place.{Place}
-use Rattle.ig_space.specs.Chunks.{listed}
+use Rattle.ig_space.specs.Cells.{IsIn-is_in, point_at-place}
+use Rattle.ig_space.specs.Chunk.{chunk_path}
+use Rattle.ig_space.specs.Chunks.{chunk_in, chunks_in, listed}
+use Rattle.ig_space.specs.Geometry.{count}
+use Rattle.ig_space.specs.Grid.{cell, cell_count, chunks_of, hull, is_in, point_at, size_of}
 use Rattle.ig_defs.specs.Own.{File}
-use Rattle.ig_layer.specs.Faults.{Fault, first_fault, first_of, or_else}
-use Rattle.ig_layer.specs.Layer.{Reading, volume_at}
-use Rattle.ig_layer.specs.Texts.{files_in}
+use Rattle.ig_layer.specs.AllListed.{all_listed-agrees}
+use Rattle.ig_layer.specs.Faults.{Fault, first_fault, or_else}
+use Rattle.ig_layer.specs.Layer.{Labels, Reading, volume_at}
+use Rattle.ig_layer.specs.Texts.{all_listed, chunk_file, chunk_text, file_if, files_in, label_by_number, labels_in, text_of, with_last}
 use Rattle.ig_record.specs.declared.stage.Kind.{Kind}
 use Rattle.ig_record.specs.declared.stage.Kind.TheVariants.{Xfer, Remove}
 use Rattle.ig_record.specs.declared.stage.Stage.{Stage}
 use Rattle.ig_record.specs.Sound.{has_come, is_sound}
 use Rattle.ig_record.specs.SoundKinds.{IsCopyOf}
 use Rattle.ig_record.specs.SoundRows.{IsSoundKind, is_xfer, is_remove}
-use Rattle.ig_record.specs.SoundStages.{sound-come, sound-kind}
-use Rattle.ig_record.specs.Columns.{inputs_of, paths_of as owned_paths}
-use Rattle.ig_record.specs.Stage.{task_box}
-use Rattle.ig_meaning.specs.Copies.{IsCopy}
+use Rattle.ig_record.specs.SoundStages.{IsSound-from, sound-come, sound-kind}
+use Rattle.ig_record.specs.Columns.{box_read, inputs_by, inputs_of, paths_of as owned_paths}
+use Rattle.ig_record.specs.Stage.{task_box, task_count}
+use Rattle.ig_meaning.specs.ChunkPlaces.{chunk_with-is}
 use Rattle.ig_meaning.specs.Refusal as refusal
 use Rattle.ig_meaning.specs.Refusal.{Refusal, refusal_of}
-use Rattle.ig_meaning.specs.SoundCopies.{sound-copy}
-use Rattle.ig_meaning.specs.Stage.{absent_in, appended, files_of_dests, first_absent, input_count, input_path, refusal_by, task_refusal, wanted_volume}
-use Rattle.ig_meaning.specs.Tasks.{inputs_of-copy, task_refusal-copy}
+use Rattle.ig_meaning.specs.Sequential.{outputs_at-append}
+use Rattle.ig_meaning.specs.Task.{absent_in, first_absent, first_damaged, labels_given, labels_within, makes_by, refusal_by, task_outputs, task_refusal, texts_given, unless}
+use Rattle.ig_meaning.specs.Wants.{Want, chunk_want, output_by, outputs_at, put_at, removal_of, text_by, wants_by, with_first}
 use Rattle.ig_cutout.specs.declared.types.Input.{Input}
 use Rattle.ig_cutout.specs.declared.types.Output.{Output}
 use Rattle.ig_cutout.specs.declared.error.CutError.{CutError}
 use Rattle.ig_cutout.specs.declared.error.CutError.TheVariants as cut
 use Rattle.ig_cutout.specs.Inputs.{HoldsAll, Says, paths_of}
 use Rattle.ig_cutout.specs.Outputs.{output_of}
-use Rattle.ig_task.specs.Answers.{MakesOutputs, RefusesTask, missing_path, run_error_of}
-use Rattle.ig_task.specs.Outputs.{outputs_by, removal_of, task_outputs}
+use Rattle.ig_task.specs.Answers.{RefusesTask, missing_path, run_error_of}
+use Rattle.ig_task.specs.OwnWants.{copy-wants, removal-wants}
+use Rattle.ig_task.specs.OwnedPaths.{Owns, copy-owns}
+use Rattle.ig_task.specs.Tiles.{part-chunk}
 
 -- ---- a sound stage is a copy or a removal
 copy_by : (s : Stage) → s.kind ≡ Xfer → IsSoundKind s → IsCopyOf s.source s.dests s.info
@@ -39,75 +47,55 @@ copy_by s copies (is_remove kind scratch removal) = let no_way : Xfer ≡ Remove
 pub copy_of : (s : Stage) → is_sound s ≡ true → s.kind ≡ Xfer → IsCopyOf s.source s.dests s.info
 copy_of s sound copies = copy_by s copies (sound-kind s sound)
 
-pub copies_to : (s : Stage) (sound : is_sound s ≡ true) (copies : s.kind ≡ Xfer) (dest : Place) → s.dests ≡ dest ∷ [] → IsCopy s dest (copy_of s sound copies).put
-copies_to s sound copies dest one =
-    let copy = copy_of s sound copies in
-    let same : copy.dest ≡ dest = cc (copy.dests_are, one) in
-    subst (λ d. IsCopy s d copy.put) same (sound-copy s sound copies copy)
+-- a copy to this scale
+pub dest_of : (s : Stage) (sound : is_sound s ≡ true) (copies : s.kind ≡ Xfer) (dest : Place) → s.dests ≡ dest ∷ [] → (copy_of s sound copies).dest ≡ dest
+dest_of s sound copies dest one = cc ((copy_of s sound copies).dests_are, one)
 
 -- of other kinds no stage is sound
 pub not_come : (s : Stage) → is_sound s ≡ true → has_come s.kind ≡ false → ⊥
 not_come s sound other = true≢false (sym (sound-come s sound) ∙ other)
 
 -- ---- the first input that was not found
--- the first of the paths where nothing is
-first_in : (List ℕ → Option (List ℕ)) → List (List ℕ) → Option (List ℕ)
-first_in files [] = None
-first_in files (path ∷ paths) = if is_none (files path) then Some path else first_in files paths
+absent_if : (path : List ℕ) (found : Option (List ℕ)) (rest : Option Refusal) (more : Option (List ℕ)) → rest ≡ option_map (λ p. refusal.Missing p) more
+    → or_else (if is_none found then Some (refusal.Missing path) else None) rest ≡ option_map (λ p. refusal.Missing p) (if is_none found then Some path else more)
+absent_if path None rest more e = refl
+absent_if path (Some bytes) rest more e = e
 
-missing_in_files : (files : Reading) (inputs : List Input) → HoldsAll files inputs → missing_path inputs ≡ first_in files (paths_of inputs)
-unfolding first_in
-missing_in_files files [] holds = refl
-missing_in_files files (input ∷ inputs) holds =
-    ap (λ found. if is_none found then Some input.path else missing_path inputs) (sym (holds 0 input (omega arith)))
-    ∙ ap (λ rest. if is_none (files input.path) then Some input.path else rest) (missing_in_files files inputs (λ k d below. holds (suc k) d (omega (arith, below))))
+absent_in-is : (path : List ℕ) (found : Option (List ℕ)) → absent_in path found ≡ (if is_none found then Some (refusal.Missing path) else None)
+absent_in-is path None = refl
+absent_in-is path (Some bytes) = refl
 
-or_first : (b : Bool) (path : List ℕ) (rest more : Option (List ℕ)) → or_else (if b then Some path else rest) more ≡ (if b then Some path else or_else rest more)
-or_first true path rest more = refl
-or_first false path rest more = refl
+pub absent-missing : (files : Reading) (inputs : List Input) → HoldsAll files inputs → first_absent files (paths_of inputs) ≡ option_map (λ p. refusal.Missing p) (missing_path inputs)
+absent-missing files [] holds = refl
+absent-missing files (input ∷ inputs) holds =
+    ap (λ found. or_else (absent_in input.path found) (first_absent files (paths_of inputs))) (holds 0 input (omega arith))
+    ∙ ap (λ first. or_else first (first_absent files (paths_of inputs))) (absent_in-is input.path input.found)
+    ∙ absent_if input.path input.found (first_absent files (paths_of inputs)) (missing_path inputs) (absent-missing files inputs (λ k d below. holds (suc k) d (omega (arith, below))))
 
-first_in-append : (files : Reading) (paths more : List (List ℕ)) → first_in files (paths ++ more) ≡ or_else (first_in files paths) (first_in files more)
-unfolding first_in
-first_in-append files [] more = refl
-first_in-append files (path ∷ paths) more =
-    ap (λ rest. if is_none (files path) then Some path else rest) (first_in-append files paths more) ∙ sym (or_first (is_none (files path)) path (first_in files paths) (first_in files more))
-
-mapped_or : (f : List ℕ → Refusal) (a b : Option (List ℕ)) → option_map f (or_else a b) ≡ or_else (option_map f a) (option_map f b)
-mapped_or f (Some x) b = refl
-mapped_or f None b = refl
-
-absent_one : (path : List ℕ) (found : Option (List ℕ)) → absent_in path found ≡ option_map (λ p. refusal.Missing p) (if is_none found then Some path else None)
-absent_one path None = refl
-absent_one path (Some bytes) = refl
-
-first_of-listed : (files : Reading) (f : ℕ → List ℕ) (n : ℕ) → first_of (λ i. absent_in (f i) (files (f i))) n ≡ option_map (λ p. refusal.Missing p) (first_in files (listed f n))
-unfolding first_in
-first_of-listed files f zero = refl
-first_of-listed files f (suc n) =
-    ap (λ first. or_else first (absent_in (f n) (files (f n)))) (first_of-listed files f n)
-    ∙ ap (λ last. or_else (option_map (λ p. refusal.Missing p) (first_in files (listed f n))) last) (absent_one (f n) (files (f n)))
-    ∙ sym (mapped_or (λ p. refusal.Missing p) (first_in files (listed f n)) (first_in files (f n ∷ [])))
-    ∙ ap (option_map (λ p. refusal.Missing p)) (sym (first_in-append files (listed f n) (f n ∷ [])))
-
-module _ (s : Stage) (copies : s.kind ≡ Xfer) (k : ℕ) (files : Reading) (inputs : List Input) (holds : HoldsAll files inputs) (paths : paths_of inputs ≡ inputs_of s k) where
-  absent-missing : first_absent s k files ≡ option_map (λ p. refusal.Missing p) (missing_path inputs)
-  absent-missing =
-      first_of-listed files (input_path s k) (input_count s k)
-      ∙ ap (λ all. option_map (λ p. refusal.Missing p) (first_in files all)) (sym (paths ∙ inputs_of-copy s copies k))
-      ∙ ap (option_map (λ p. refusal.Missing p)) (sym (missing_in_files files inputs holds))
-
-  refused-first : (found : Option (List ℕ)) → missing_path inputs ≡ found
-      → task_refusal s k files ≡ or_else (option_map (λ p. refusal.Missing p) found) (option_map refusal_of (first_fault s.source (task_box s k) files))
-  refused-first found e =
-      task_refusal-copy s copies k files
-      ∙ ap (λ first. or_else first (option_map refusal_of (first_fault s.source (task_box s k) files))) (absent-missing ∙ ap (option_map (λ p. refusal.Missing p)) e)
+module _ (s : Stage) (k : ℕ) (files : Reading) (inputs : List Input) (holds : HoldsAll files inputs) (paths : paths_of inputs ≡ inputs_of s k) where
+  absent_of : (found : Option (List ℕ)) → missing_path inputs ≡ found → first_absent files (inputs_of s k) ≡ option_map (λ p. refusal.Missing p) found
+  absent_of found e = ap (first_absent files) (sym paths) ∙ absent-missing files inputs holds ∙ ap (option_map (λ p. refusal.Missing p)) e
 
   pub refused-missing : (path : List ℕ) → missing_path inputs ≡ Some path → task_refusal s k files ≡ Some (refusal.Missing path)
-  refused-missing path e = refused-first (Some path) e
+  refused-missing path e =
+      ap (λ first. or_else first (or_else (first_damaged s (box_read s.kind s k) files) (refusal_by s.kind s k (texts_given s k files)))) (absent_of (Some path) e)
 
-  -- where all were found, the refusal is the first fault
-  pub refused-fault : missing_path inputs ≡ None → task_refusal s k files ≡ option_map refusal_of (first_fault s.source (task_box s k) files)
-  refused-fault e = refused-first None e
+  -- where all were found
+  pub refused-found : missing_path inputs ≡ None → task_refusal s k files ≡ or_else (first_damaged s (box_read s.kind s k) files) (refusal_by s.kind s k (texts_given s k files))
+  refused-found e =
+      ap (λ first. or_else first (or_else (first_damaged s (box_read s.kind s k) files) (refusal_by s.kind s k (texts_given s k files)))) (absent_of None e)
+
+-- ---- copies
+or_none : {A : Type 0} (o : Option A) → or_else o None ≡ o
+or_none None = refl
+or_none (Some x) = refl
+
+pub copy-fault : (s : Stage) → s.kind ≡ Xfer → (k : ℕ) (files : Reading) (inputs : List Input) → HoldsAll files inputs → paths_of inputs ≡ inputs_of s k → missing_path inputs ≡ None
+    → task_refusal s k files ≡ option_map refusal_of (first_fault s.source (task_box s k) files)
+copy-fault s copies k files inputs holds paths found =
+    refused-found s k files inputs holds paths found
+    ∙ or_none (first_damaged s (box_read s.kind s k) files)
+    ∙ ap (λ (kind : Kind). first_damaged s (box_read kind s k) files) copies
 
 says_refuses : (e : CutError) (fault : Option Fault) → Says e fault → RefusesTask (run_error_of e) (option_map refusal_of fault)
 says_refuses (cut.Missing path) fault says = ap (option_map refusal_of) says
@@ -117,32 +105,107 @@ says_refuses cut.Memory fault says = tt
 pub refused-cut : (s : Stage) → s.kind ≡ Xfer → (k : ℕ) (files : Reading) (inputs : List Input) (e : CutError) → HoldsAll files inputs → paths_of inputs ≡ inputs_of s k → missing_path inputs ≡ None
     → Says e (first_fault s.source (task_box s k) files) → RefusesTask (run_error_of e) (task_refusal s k files)
 refused-cut s copies k files inputs e holds paths found says =
-    subst (RefusesTask (run_error_of e)) (sym (refused-fault s copies k files inputs holds paths found)) (says_refuses e (first_fault s.source (task_box s k) files) says)
+    subst (RefusesTask (run_error_of e)) (sym (copy-fault s copies k files inputs holds paths found)) (says_refuses e (first_fault s.source (task_box s k) files) says)
 
--- ---- what a task makes
--- of one scale, what it makes are the chunks of that
-outputs-one : (s : Stage) → s.kind ≡ Xfer → (dest : Place) (k : ℕ) (files : Reading) → s.dests ≡ dest ∷ []
-    → task_outputs s k files ≡ option_map (map output_of) (files_in dest (volume_at files s.source) (task_box s k))
-outputs-one s copies dest k files one =
-    ap (λ (kind : Kind). outputs_by kind s k files) copies
-    ∙ ap (λ (kind : Kind). option_map (map output_of) (files_of_dests s.dests (wanted_volume kind (volume_at files s.source)) (task_box s k))) copies
-    ∙ ap (λ dests. option_map (map output_of) (files_of_dests dests (volume_at files s.source) (task_box s k))) one
-    ∙ ap (option_map (map output_of)) (appended-none (files_in dest (volume_at files s.source) (task_box s k)))
-  where
-    appended-none : (made : Option (List File)) → appended made (Some []) ≡ made
-    appended-none None = refl
-    appended-none (Some made) = ap Some (append-nil made)
+-- the labels of a box are those within it
+label-within : (volume : Labels) (box : Box3) (k : ℕ) → k < count (size_of box) → label_by_number (labels_within (Some box) volume) box k ≡ label_by_number volume box k
+label-within volume box k below =
+    let p = point_at (size_of box) k in
+    let place = point_at-place (size_of box) k below in
+    let inside = IsIn-is_in box (box.lo.x + p.x) (box.lo.y + p.y) (box.lo.z + p.z)
+        (record { x_from = omega arith; x_to = omega (arith, place.x); y_from = omega arith; y_to = omega (arith, place.y); z_from = omega arith; z_to = omega (arith, place.z) }) in
+    ap (λ test. if test then volume (box.lo.x + p.x) (box.lo.y + p.y) (box.lo.z + p.z) else None) inside
 
-pub makes_outputs : (s : Stage) → s.kind ≡ Xfer → (dest : Place) (k : ℕ) (files : Reading) (inputs : List Input) (outputs : List Output) → s.dests ≡ dest ∷ [] → HoldsAll files inputs → paths_of inputs ≡ inputs_of s k
-    → missing_path inputs ≡ None → first_fault s.source (task_box s k) files ≡ None
-    → option_map (map output_of) (files_in dest (volume_at files s.source) (task_box s k)) ≡ Some outputs → MakesOutputs s k files outputs
-makes_outputs s copies dest k files inputs outputs one holds paths found sound cut = record {
-  fine = refused-fault s copies k files inputs holds paths found ∙ ap (option_map refusal_of) sound;
-  are = outputs-one s copies dest k files one ∙ cut;
-}
+pub labels_in-within : (volume : Labels) (box : Box3) → labels_in (labels_within (Some box) volume) box ≡ labels_in volume box
+labels_in-within volume box = all_listed-agrees (label_by_number (labels_within (Some box) volume) box) (label_by_number volume box) (count (size_of box)) (label-within volume box)
 
-pub makes_removals : (s : Stage) → s.kind ≡ Remove → (k : ℕ) (files : Reading) (outputs : List Output) → outputs ≡ map removal_of (owned_paths s k) → MakesOutputs s k files outputs
-makes_removals s removes k files outputs is = record {
-  fine = ap (λ (kind : Kind). refusal_by kind s k files) removes;
-  are = ap (λ (kind : Kind). outputs_by kind s k files) removes ∙ ap Some (sym is);
-}
+-- the chunks that are cut are what is wanted of the labels
+text_then : (place : Place) (box : Box3) (o : Option (List ℕ)) → option_and_then (chunk_want place box).text o ≡ text_of place.geometry.encoding place.geometry.width (size_of box) o
+text_then place box None = refl
+text_then place box (Some labels) = refl
+
+file_then : (path : List ℕ) (text : Option (List ℕ)) (file : File) → file_if path text ≡ Some file → option_map (put_at path) text ≡ Some (output_of file)
+file_then path None file e = absurd (none-some file e)
+file_then path (Some text) file e = ap (λ f. Some (output_of f)) (same_Some _ file e)
+
+module _ (s : Stage) (sound : is_sound s ≡ true) (copies : s.kind ≡ Xfer) (k : ℕ) (below : k < task_count s) (labels : Labels) where
+  abbrev copy : IsCopyOf s.source s.dests s.info
+  copy = copy_of s sound copies
+
+  owns : Owns s copy.dest
+  owns = copy-owns s (IsSound-from s sound) copies copy
+
+  abbrev parts : ℕ → Box3
+  parts i = cell (hull (chunks_of copy.dest.geometry) (task_box s k)) i
+
+  -- one chunk
+  one_chunk : (i : ℕ) → i < cell_count (hull (chunks_of copy.dest.geometry) (task_box s k)) → (file : File) → chunk_file copy.dest labels (parts i) ≡ Some file
+      → outputs_at s labels (chunk_in copy.dest (task_box s k) i ∷ []) ≡ Some (output_of file ∷ [])
+  one_chunk i few file e =
+      let path = chunk_path copy.dest.dir (parts i) in
+      let chunk = part-chunk copy.dest _ owns.tiled k below i few in
+      let there = chunk_with-is copy.dest copy.is_dest.fits path (parts i) chunk in
+      let want : wants_by s.kind s path ≡ Some (chunk_want copy.dest (parts i)) = copy-wants s copies copy path ∙ ap (option_map (chunk_want copy.dest)) there in
+      let text = text_then copy.dest (parts i) (labels_in labels (parts i)) in
+      ap (λ w. with_first (output_by labels path w) (Some [])) want
+      ∙ ap (λ t. with_first (option_map (put_at path) t) (Some [])) text
+      ∙ ap (λ o. with_first o (Some [])) (file_then path (chunk_text copy.dest.geometry labels (parts i)) file e)
+
+  record IsLast (front : Option (List File)) (last : Option File) (all : List File) : Type 0 where
+    first : List File
+    file : File
+    front_is : front ≡ Some first
+    last_is : last ≡ Some file
+    are : first ++ file ∷ [] ≡ all
+
+  last-from : (front : Option (List File)) (last : Option File) (all : List File) → with_last front last ≡ Some all → IsLast front last all
+  last-from None last all e = absurd (none-some all e)
+  last-from (Some first) None all e = absurd (none-some all e)
+  last-from (Some first) (Some file) all e = record { first = first; file = file; front_is = refl; last_is = refl; are = same_Some _ all e }
+
+  mapped-last : (first : List File) (file : File) → map output_of (first ++ file ∷ []) ≡ map output_of first ++ output_of file ∷ []
+  mapped-last [] file = refl
+  mapped-last (f ∷ first) file = ap (λ rest. output_of f ∷ rest) (mapped-last first file)
+
+  cut_chunks : (n : ℕ) → n ≤ cell_count (hull (chunks_of copy.dest.geometry) (task_box s k)) → (files : List File) → all_listed (λ i. chunk_file copy.dest labels (parts i)) n ≡ Some files
+      → outputs_at s labels (listed (chunk_in copy.dest (task_box s k)) n) ≡ Some (map output_of files)
+  cut_chunks zero few files e = ap (λ fs. Some (map output_of fs)) (same_Some [] files e)
+  cut_chunks (suc n) few files e =
+      let l = last-from (all_listed (λ i. chunk_file copy.dest labels (parts i)) n) (chunk_file copy.dest labels (parts n)) files e in
+      outputs_at-append s labels (listed (chunk_in copy.dest (task_box s k)) n) (chunk_in copy.dest (task_box s k) n ∷ []) (map output_of l.first) (output_of l.file ∷ [])
+      (cut_chunks n (omega (arith, few)) l.first l.front_is) (one_chunk n few l.file l.last_is)
+      ∙ ap Some (sym (mapped-last l.first l.file) ∙ ap (map output_of) l.are)
+
+  mapped_some : (o : Option (List File)) (outputs : List Output) → option_map (map output_of) o ≡ Some outputs → (files : List File) × (o ≡ Some files) × (map output_of files ≡ outputs)
+  mapped_some None outputs e = absurd (none-some outputs e)
+  mapped_some (Some files) outputs e = (files, refl, same_Some (map output_of files) outputs e)
+
+  pub cut_outputs : (outputs : List Output) → option_map (map output_of) (files_in copy.dest labels (task_box s k)) ≡ Some outputs → outputs_at s labels (owned_paths s k) ≡ Some outputs
+  cut_outputs outputs e =
+      let m = mapped_some (files_in copy.dest labels (task_box s k)) outputs e in
+      ap (outputs_at s labels) (owns.paths k) ∙ cut_chunks (cell_count (hull (chunks_of copy.dest.geometry) (task_box s k))) (omega arith) m.0 m.1 ∙ ap Some m.2
+
+pub copy-makes_outputs : (s : Stage) (sound : is_sound s ≡ true) (copies : s.kind ≡ Xfer) (k : ℕ) → k < task_count s → (dest : Place) → s.dests ≡ dest ∷ [] → (files : Reading) (inputs : List Input) (outputs : List Output)
+    → HoldsAll files inputs → paths_of inputs ≡ inputs_of s k → missing_path inputs ≡ None → first_fault s.source (task_box s k) files ≡ None
+    → option_map (map output_of) (files_in dest (labels_within (Some (task_box s k)) (volume_at files s.source)) (task_box s k)) ≡ Some outputs → task_outputs s k files ≡ Some outputs
+copy-makes_outputs s sound copies k below dest one files inputs outputs holds paths found fine cut =
+    let given : labels_given s k files ≡ labels_within (Some (task_box s k)) (volume_at files s.source) = ap (λ (kind : Kind). labels_within (box_read kind s k) (volume_at files s.source)) copies in
+    let made = subst (λ d. option_map (map output_of) (files_in d (labels_within (Some (task_box s k)) (volume_at files s.source)) (task_box s k)) ≡ Some outputs) (sym (dest_of s sound copies dest one)) cut in
+    let outs : makes_by s.kind s k (labels_given s k files) (texts_given s k files) ≡ Some outputs
+    = ap (λ l. outputs_at s l (owned_paths s k)) given ∙ cut_outputs s sound copies k below (labels_within (Some (task_box s k)) (volume_at files s.source)) outputs made in
+    ap (λ r. unless r (makes_by s.kind s k (labels_given s k files) (texts_given s k files))) (copy-fault s copies k files inputs holds paths found ∙ ap (option_map refusal_of) fine) ∙ outs
+
+-- ---- removals
+removed_at : (s : Stage) → s.kind ≡ Remove → (labels : Labels) (paths : List (List ℕ)) → outputs_at s labels paths ≡ Some (map removal_of paths)
+removed_at s removes labels [] = refl
+removed_at s removes labels (path ∷ paths) =
+    ap (λ want. with_first (output_by labels path want) (outputs_at s labels paths)) (removal-wants s removes path)
+    ∙ ap (with_first (Some (removal_of path))) (removed_at s removes labels paths)
+
+pub makes_removals : (s : Stage) → s.kind ≡ Remove → (k : ℕ) (files : Reading) (inputs : List Input) (outputs : List Output) → HoldsAll files inputs → paths_of inputs ≡ inputs_of s k → missing_path inputs ≡ None
+    → outputs ≡ map removal_of (owned_paths s k) → task_outputs s k files ≡ Some outputs
+makes_removals s removes k files inputs outputs holds paths found is =
+    let fine : task_refusal s k files ≡ None =
+    refused-found s k files inputs holds paths found ∙ ap (λ (kind : Kind). or_else (first_damaged s (box_read kind s k) files) (refusal_by s.kind s k (texts_given s k files))) removes in
+    ap (λ r. unless r (makes_by s.kind s k (labels_given s k files) (texts_given s k files))) fine
+    ∙ removed_at s removes (labels_given s k files) (owned_paths s k) ∙ ap Some (sym is)

@@ -1,18 +1,13 @@
 -- What the answers of a run say.
-use Rattle.std.specs.Prelude.{◌≡◌, ℕ, if◌then◌else◌, List, [], ◌∷◌, Option, None, Some, is_none}
-use Rattle.ig_layer.specs.Layer.{Reading}
+use Rattle.std.specs.Prelude.{◌≡◌, if◌then◌else◌, List, [], ◌∷◌, ℕ, Option, None, Some, is_none}
 use Rattle.ig_meaning.specs.Refusal as meaning
 use Rattle.ig_meaning.specs.Refusal.{Refusal}
-use Rattle.ig_meaning.specs.Stage.{task_refusal}
-use Rattle.ig_record.specs.declared.stage.Stage.{Stage}
 use Rattle.ig_cutout.specs.declared.types.Input.{Input}
-use Rattle.ig_cutout.specs.declared.types.Output.{Output}
 use Rattle.ig_cutout.specs.declared.error.CutError.{CutError}
 use Rattle.ig_cutout.specs.declared.error.CutError.TheVariants as cut
 use Rattle.ig_cutout.specs.Inputs.{cause_of}
 use Rattle.ig_task.specs.declared.error.RunError.{RunError}
 use Rattle.ig_task.specs.declared.error.RunError.TheVariants.{Missing, Malformed, TooManyParts, Memory}
-use Rattle.ig_task.specs.Outputs.{task_outputs}
 
 -- the error of an area whose labels are not there
 abbrev pub run_error_of : CutError → RunError
@@ -24,11 +19,6 @@ run_error_of cut.Memory = Memory
 abbrev pub missing_path : List Input → Option (List ℕ)
 missing_path [] = None
 missing_path (input ∷ inputs) = if is_none input.found then Some input.path else missing_path inputs
-
--- the task does not refuse, and these are its outputs
-pub record MakesOutputs (s : Stage) (k : ℕ) (files : Reading) (outputs : List Output) : Type 0 where
-  pub fine : task_refusal s k files ≡ None
-  pub are : task_outputs s k files ≡ Some outputs
 
 -- the error is that refusal; want of memory may always come
 abbrev pub RefusesTask : RunError → Option Refusal → Type 0

@@ -1,11 +1,10 @@
--- Each kind of stage keeps what the laws of the rule rest on, and its tasks make what it wants.
+-- Each kind of stage keeps what the laws of the rule rest on.
 use Rattle.std.specs.Prelude.{◌≡◌, ◌≢◌, ◌⊎◌, ◌<◌, ℕ, true, List, [], ◌∷◌, length, Option, None, Some, option_map, Contains, codes, refl}
 use Rattle.std.proofs.Common.{arith, ap, sym, subst, ◌∙◌, inl, inr, length-append, true≢false}
 use Rattle.std.proofs.lemmas.List.Elements.{Contains-push, Contains-push_cases}
 use Rattle.std.proofs.lemmas.Option.{none-some, same_Some}
 use Rattle.ig_space.specs.Path.{joined}
 use Rattle.ig_defs.specs.Own.{File}
-use Rattle.ig_layer.specs.Layer.{Reading, volume_at}
 use Rattle.ig_record.specs.declared.stage.Kind.TheVariants.{Xfer, Remove}
 use Rattle.ig_record.specs.declared.stage.Stage.{Stage}
 use Rattle.ig_record.specs.Reading.{record_in}
@@ -15,19 +14,14 @@ use Rattle.ig_record.specs.SoundStages.{IsSound, IsSound-from, sound-kind}
 use Rattle.ig_record.specs.SoundKinds.{IsCopyOf, IsRemoval}
 use Rattle.ig_record.specs.SoundRows.{IsSoundKind, is_remove, is_xfer}
 use Rattle.ig_record.specs.Columns.{output_dirs}
-use Rattle.ig_record.specs.Stage.{task_count}
-use Rattle.ig_meaning.specs.Stage.{file_of, wanted_volume}
-use Rattle.ig_cutout.specs.declared.types.Output.{Output}
+use Rattle.ig_meaning.specs.ChunkPlaces.{chunk-lies, chunk-not_info, is_chunk_of-from, is_chunk_of-is}
+use Rattle.ig_meaning.specs.Jobs.{file_of}
+use Rattle.ig_meaning.specs.Lasting.{wanted-lasts}
 use Rattle.ig_rule.specs.DirPaths.{dir_of-segment, dir_within}
 use Rattle.ig_rule.specs.Facts.{Facts, KindLaws, LiesInOne, Pass, StageLaws}
-use Rattle.ig_task.specs.ChunkPlaces.{chunk-lies, chunk-not_info, is_chunk_of-from, is_chunk_of-is}
 use Rattle.ig_task.specs.Facts.{facts_of, stage_reader}
-use Rattle.ig_task.specs.Lasting.{wanted-lasts}
-use Rattle.ig_task.specs.MadeFiles.{copy-wanted_outputs, removal-wanted_outputs}
-use Rattle.ig_task.specs.Outputs.{task_outputs}
 use Rattle.ig_task.specs.OwnedPaths.{chunk-path, copy-makes, copy-outputs, copy-owns, one-task, path-chunk, removal-owns, removal-removes}
-use Rattle.ig_task.specs.Wanted.{AreWanted}
-use Rattle.ig_task.specs.WantedTexts.{copy-wanted, removal-wanted, text-chunk}
+use Rattle.ig_task.specs.OwnWants.{copy-chunk, removal-wants_none}
 
 -- ---- the info of a copy
 info-is : (s : Stage) (c : IsCopyOf s.source s.dests s.info) (info : File) → option_map file_of s.info ≡ Some info → info.path ≡ joined c.layer (codes "info")
@@ -55,9 +49,8 @@ copy-laws n s h is c =
     let dest = c.dest in
     let owns = copy-owns s h is c in
     record {
-      wanted_stays = λ old new path bytes keeps. wanted-lasts s h.fits old new path bytes keeps;
-      wanted_at = λ files path bytes e.
-          chunk-path s dest owns n path (text-chunk dest (wanted_volume s.kind (volume_at files s.source)) path bytes (sym (copy-wanted s c files path) ∙ e));
+      wanted_stays = λ old new path bytes keeps. wanted-lasts s h.fits old new path bytes keeps.kept;
+      wanted_at = λ files path bytes e. chunk-path s dest owns n path (copy-chunk s is c files path bytes e);
       path_in = λ makes path u. record {
         dir = dest.dir;
         one = subst (λ dirs. Contains dirs dest.dir) (sym (copy-outputs s is c)) (Contains-push [] dest.dir);
@@ -83,8 +76,8 @@ removal-laws : (n : ℕ) (s : Stage) → IsSound s → s.kind ≡ Remove → IsR
 removal-laws n s h is r =
     let owns = removal-owns s h is in
     record {
-      wanted_stays = λ old new path bytes keeps. wanted-lasts s h.fits old new path bytes keeps;
-      wanted_at = λ files path bytes e. absurd (none-some bytes (sym (removal-wanted s r files path) ∙ e));
+      wanted_stays = λ old new path bytes keeps. wanted-lasts s h.fits old new path bytes keeps.kept;
+      wanted_at = λ files path bytes e. absurd (removal-wants_none s is files path bytes e);
       path_in = λ makes path u. absurd (true≢false (sym (removal-removes s is) ∙ makes));
       removed_chunk = λ removes path u. is_chunk_of-is s.source h.fits path (path-chunk s s.source owns n path u);
       one_task = one-task s s.source owns;
@@ -130,12 +123,3 @@ kinds = record {
       subst StageLaws r.is (laws-by n r.stage (IsSound-from r.stage r.sound) (sound-kind r.stage r.sound));
   pass = λ n m text other s t key read_s read_t needs serves. absurd (needs-none n s key (reader-reads n text s read_s) needs);
 }
-
--- ---- of tasks
-wanted-by : (s : Stage) → IsSound s → IsSoundKind s → (k : ℕ) → k < task_count s → (files : Reading) (outputs : List Output) → task_outputs s k files ≡ Some outputs → AreWanted s k files outputs
-wanted-by s h (is_xfer is none c) k below = copy-wanted_outputs s h is c k below
-wanted-by s h (is_remove is none r) k below = removal-wanted_outputs s is k
-
--- What a task of a sound stage makes of its inputs is what the stage wants.
-pub outputs-are_wanted : (s : Stage) → is_sound s ≡ true → (k : ℕ) → k < task_count s → (files : Reading) (outputs : List Output) → task_outputs s k files ≡ Some outputs → AreWanted s k files outputs
-outputs-are_wanted s sound = wanted-by s (IsSound-from s sound) (sound-kind s sound)

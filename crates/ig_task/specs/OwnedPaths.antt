@@ -16,7 +16,7 @@ use Rattle.ig_record.specs.Columns.{chunks_of_all, dirs_by, dirs_of_all, output_
 use Rattle.ig_record.specs.Stage.{shape_unit, task_box, task_count, task_grid, task_size}
 use Rattle.ig_meaning.specs.TaskBoxes.{IsWhole, task_box-whole, unfit_axis-none}
 use Rattle.ig_rule.specs.Facts.{IsPath}
-use Rattle.ig_task.specs.ChunkPlaces.{IsChunk}
+use Rattle.ig_meaning.specs.ChunkPlaces.{IsChunk}
 use Rattle.ig_task.specs.Facts.{facts_of}
 use Rattle.ig_task.specs.Tiles.{IsTiled, chunk-part, part-from, part-one}
 

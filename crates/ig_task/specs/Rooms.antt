@@ -17,7 +17,7 @@ use Rattle.ig_record.specs.Columns.{output_dirs, removed_by, removed_dir}
 use Rattle.ig_meaning.specs.Plan.{planned}
 use Rattle.ig_meaning.specs.QueueApart.{outside-layer, planned-copy}
 use Rattle.ig_meaning.specs.QueueWords.{is_apart}
-use Rattle.ig_meaning.specs.Stage.{file_of}
+use Rattle.ig_meaning.specs.Jobs.{file_of}
 use Rattle.ig_meaning.specs.Taken.{taken_by}
 use Rattle.ig_meaning.specs.TakenLaws.{HasNoneOf, none_in, not_taken, the_only}
 use Rattle.ig_meaning.specs.Words.{Request}

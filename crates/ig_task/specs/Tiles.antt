@@ -16,8 +16,8 @@ use Rattle.ig_space.specs.Grid.{IsGrid, IsIn, IsWithin, cell, cell_count, chunks
 use Rattle.ig_space.specs.Hulls.{hull-IsGrid}
 use Rattle.ig_space.specs.HullCells.{hull-cells}
 use Rattle.ig_record.specs.SoundFacts.{IsDir}
-use Rattle.ig_task.specs.ChunkPlaces.{IsChunkAt, IsChunk, chunk-IsBox}
-use Rattle.ig_task.specs.Lists.{listed-from, listed-has}
+use Rattle.ig_meaning.specs.ChunkPlaces.{IsChunkAt, IsChunk, chunk-IsBox}
+use Rattle.ig_meaning.specs.Lists.{listed-from, listed-has}
 
 -- The parts cut the space of the place into boxes of whole chunks.
 pub record IsTiled (place : Place) (parts : Grid) : Type 0 where

@@ -5,8 +5,11 @@ use Rattle.ig_layer.specs.Layer.{Reading}
 use Rattle.ig_record.specs.declared.stage.Stage.{Stage}
 use Rattle.ig_record.specs.Columns.{paths_of, removed_dir}
 use Rattle.ig_cutout.specs.declared.types.Output.{Output}
-use Rattle.ig_task.specs.Facts.{wanted_text}
-use Rattle.ig_task.specs.Outputs.{path_of}
+use Rattle.ig_meaning.specs.Wants.{wanted_text}
+
+-- the path of an output
+abbrev pub path_of : Output → List ℕ
+path_of output = output.path
 
 -- its text is the one that is wanted at its path
 pub record HasWantedText (s : Stage) (files : Reading) (output : Output) : Type 0 where

@@ -1,14 +1,15 @@
 //! What a task makes of what was found of its inputs. Nothing is read or put here.
-ghost use Rattle.std.specs.Prelude.{◌≡◌, ◌<◌, [], ◌∷◌, IfOk, IfErr, map, option_map, true};
+ghost use Rattle.std.specs.Prelude.{◌≡◌, ◌<◌, [], ◌∷◌, IfOk, IfErr, None, Some, map, option_map, true};
 ghost use Rattle.ig_layer.specs.Layer.{Reading};
 ghost use Rattle.ig_record.specs.declared.stage.Kind.TheVariants.{Xfer};
 ghost use Rattle.ig_record.specs.Sound.{is_sound};
 ghost use Rattle.ig_record.specs.Columns.{inputs_of, paths_of};
 ghost use Rattle.ig_record.specs.Stage.{task_count};
-ghost use Rattle.ig_meaning.specs.Stage.{task_refusal};
+ghost use Rattle.ig_meaning.specs.Task.{task_outputs, task_refusal};
+ghost use Rattle.ig_meaning.specs.Wants.{removal_of};
 ghost use Rattle.ig_cutout.specs.Inputs.{HoldsAll, paths_of as input_paths};
-ghost use Rattle.ig_task.specs.Answers.{missing_path, MakesOutputs, RefusesTask};
-ghost use Rattle.ig_task.specs.Outputs.{removal_of};
+ghost use Rattle.ig_task.specs.Answers.{missing_path, RefusesTask};
+ghost use Rattle.ig_task.specs.Facts.{given_to};
 ghost use Rattle.ig_task.specs.Wanted.{AreWanted};
 
 use crate::RunError;
@@ -38,18 +39,16 @@ fn dest(stage: &Stage) -> &Place
     &stage.dests.as_slice()[0]
 }
 
-/// The chunks of the copy, from the labels of the task's box.
-fn copy(alloc: Global, stage: &Stage, task: u32, given: &Inputs) -> Result<Outputs, RunError>
+/// The chunks of a copy, from the labels of the task's box.
+fn copied(alloc: Global, stage: &Stage, task: u32, given: &Inputs) -> Result<Outputs, RunError>
     requires sound { is_sound stage.now ≡ true }
     requires copies { stage.now.kind ≡ Xfer }
     requires below { task < task_count stage.now }
     requires paths { input_paths given.now ≡ inputs_of stage.now task }
-    ensures made { IfOk result (λ outputs. (files : Reading) → HoldsAll files given.now → MakesOutputs stage.now task files outputs) }
+    requires found { missing_path given.now ≡ None }
+    ensures made { IfOk result (λ outputs. (files : Reading) → HoldsAll files given.now → task_outputs stage.now task files ≡ Some outputs) }
     ensures refused { IfErr result (λ e. (files : Reading) → HoldsAll files given.now → RefusesTask e (task_refusal stage.now task files)) }
 {
-    if let Some(path) = absent(given) {
-        return Err(RunError::Missing { path: path.copy()? });
-    }
     let area = stage.task_box(task);
     let volume = assemble(alloc, &stage.source, area, given)?;
     let outputs = cut_chunks(alloc, dest(stage), area, &volume)?;
@@ -72,20 +71,36 @@ fn removals(alloc: Global, stage: &Stage, task: u32) -> Result<Outputs, AllocErr
     Ok(outputs)
 }
 
-/// What a task makes of what was found of its inputs, in the order of its paths: files, and of a removal what is taken
-/// away. `Missing` is the first input that was not found; else `Malformed` is the first that is no text of its chunk.
-pub fn run(alloc: Global, stage: &Stage, task: u32, given: &Inputs) -> Result<Outputs, RunError>
+/// By the kind: what a task makes of its inputs, all of which were found.
+fn made(alloc: Global, stage: &Stage, task: u32, given: &Inputs) -> Result<Outputs, RunError>
     requires sound { is_sound stage.now ≡ true }
     requires below { task < task_count stage.now }
     requires paths { input_paths given.now ≡ inputs_of stage.now task }
-    ensures made { IfOk result (λ outputs. (files : Reading) → HoldsAll files given.now → MakesOutputs stage.now task files outputs) }
-    ensures wanted { IfOk result (λ outputs. (files : Reading) → HoldsAll files given.now → AreWanted stage.now task files outputs) }
+    requires found { missing_path given.now ≡ None }
+    ensures made { IfOk result (λ outputs. (files : Reading) → HoldsAll files given.now → task_outputs stage.now task files ≡ Some outputs) }
     ensures refused { IfErr result (λ e. (files : Reading) → HoldsAll files given.now → RefusesTask e (task_refusal stage.now task files)) }
 {
     match stage.kind {
-        Kind::Xfer => copy(alloc, stage, task, given),
+        Kind::Xfer => copied(alloc, stage, task, given),
         Kind::Remove => Ok(removals(alloc, stage, task)?),
         Kind::Downsample | Kind::Faces | Kind::Links | Kind::Labels => unreachable!(),
         Kind::Relabel | Kind::Count | Kind::Sum => unreachable!(),
     }
+}
+
+/// What a task makes of what was found of its inputs, in the order of its paths: files, and of a removal what is taken
+/// away. `Missing` is the first input that was not found; else `Malformed` is the first that is no text of its chunk. Where the
+/// inputs are those of the source in some files, and what earlier passes want, the outputs are what the stage wants.
+pub fn run(alloc: Global, stage: &Stage, task: u32, given: &Inputs) -> Result<Outputs, RunError>
+    requires sound { is_sound stage.now ≡ true }
+    requires below { task < task_count stage.now }
+    requires paths { input_paths given.now ≡ inputs_of stage.now task }
+    ensures made { IfOk result (λ outputs. (files : Reading) → HoldsAll files given.now → task_outputs stage.now task files ≡ Some outputs) }
+    ensures wanted { IfOk result (λ outputs. (files : Reading) → HoldsAll (given_to stage.now files) given.now → AreWanted stage.now task files outputs) }
+    ensures refused { IfErr result (λ e. (files : Reading) → HoldsAll files given.now → RefusesTask e (task_refusal stage.now task files)) }
+{
+    if let Some(path) = absent(given) {
+        return Err(RunError::Missing { path: path.copy()? });
+    }
+    made(alloc, stage, task, given)
 }

@@ -1,6 +1,6 @@
 -- The removals so far, and then those of the paths that are left, are all.
 use Rattle.std.proofs.Common.{◌≡◌, ◌++◌, drop, map}
-use Rattle.ig_task.specs.Outputs.{removal_of}
+use Rattle.ig_meaning.specs.Wants.{removal_of}
 use Rattle.ig_task.proofs.running.removals.Given as goal
 
 abbrev pub invariant-loop-path : goal.invariant-loop-path

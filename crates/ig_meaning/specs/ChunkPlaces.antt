@@ -17,8 +17,8 @@ use Rattle.ig_record.specs.SoundFacts.{IsDir}
 use Rattle.ig_rule.specs.Dirs.{LiesIn}
 use Rattle.ig_rule.specs.DirPaths.{name_is}
 use Rattle.ig_rule.specs.Facts.{IsInfoName}
-use Rattle.ig_task.specs.Facts.{chunk_if, chunk_with, is_chunk_of}
-use Rattle.ig_task.specs.Lists.{first_of-from, first_of-is}
+use Rattle.ig_meaning.specs.Wants.{chunk_if, chunk_with, is_chunk_of}
+use Rattle.ig_meaning.specs.Lists.{first_of-from, first_of-is}
 
 -- ---- the chunk with a path
 if_some : {A : Type 0} (test : Bool) (x y : A) → (if test then Some x else None) ≡ Some y → (test ≡ true) × (x ≡ y)
