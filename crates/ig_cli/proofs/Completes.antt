@@ -10,7 +10,7 @@ use Rattle.ig_meaning.specs.Making.{Planned, making_of_copy}
 use Rattle.ig_meaning.specs.Plan.{stage_of_command}
 use Rattle.ig_meaning.specs.Refusal.{Refusal}
 use Rattle.ig_record.specs.declared.stage.Stage.{Stage}
-use Rattle.ig_meaning.specs.Stage.{info_files, sequential}
+use Rattle.ig_meaning.specs.Jobs.{jobs_of, sequential, with_info}
 use Rattle.ig_meaning.specs.Words.{Command, Enqueue, Request, command_of}
 use Rattle.ig_cli.specs.declared.report.CommandError.{CommandError}
 use Rattle.ig_cli.specs.declared.report.CommandError.TheVariants.{Local}
@@ -25,11 +25,11 @@ use Rattle.ig_cli.proofs.Performs.{HasWasRun, ends_same, refused_making, was_run
 use Rattle.ig_cli.proofs.Ready.{ready_not_refused}
 
 -- the same stage has the same run
-same_run : (s t : Stage) (files after : Files) → Some s ≡ Some t → sequential s (put_all files (info_files s.info)) ≡ None
-    → sequential t (put_all files (info_files t.info)) ≡ Some after → ⊥
+same_run : (s t : Stage) (files after : Files) → Some s ≡ Some t → sequential (jobs_of s) (with_info s.info files) ≡ None
+    → sequential (jobs_of t) (with_info t.info files) ≡ Some after → ⊥
 same_run s t files after same none some =
     let is : s ≡ t = cc in
-    let no_run : sequential t (put_all files (info_files t.info)) ≡ None = subst (λ x. sequential x (put_all files (info_files x.info)) ≡ None) is none in
+    let no_run : sequential (jobs_of t) (with_info t.info files) ≡ None = subst (λ x. sequential (jobs_of x) (with_info x.info files) ≡ None) is none in
     let no_way : None ≡ Some after = sym no_run ∙ some in cc
 
 run_not_refused : (words : List (List ℕ)) (old new : Log) (r : Refusal) → IsReady words (files_of old) → HasWasRun words old new (Refuses r) → ⊥

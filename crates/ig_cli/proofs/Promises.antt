@@ -17,7 +17,7 @@ use Rattle.ig_meaning.specs.Plan.{stage_of}
 use Rattle.ig_meaning.specs.Refusal.{Refusal}
 use Rattle.ig_record.specs.declared.stage.Stage.{Stage}
 use Rattle.ig_stage.specs.Made.{LooksFirst}
-use Rattle.ig_meaning.specs.Stage.{planned_puts}
+use Rattle.ig_meaning.specs.Jobs.{planned_puts}
 use Rattle.ig_meaning.specs.Words.{command_of, queue_of_command, queue_of_words}
 use Rattle.ig_stage.specs.declared.error.MakeError.TheVariants.{Absent, BadRecord, TooManyStages, Missing as make_missing, BadInfo, NoScale, DestNotEmpty, Taken, ShapeUnfit, TooManyTasks, TaskTooLarge, Failed, Memory as make_memory}
 use Rattle.ig_cli.specs.declared.done.Done.{Done}

@@ -5,7 +5,7 @@ use Rattle.std.proofs.lemmas.Bool.{cases_lt}
 use Rattle.std.proofs.lemmas.List.{append-nil}
 use Rattle.ig_space.specs.Chunks.{listed}
 use Rattle.ig_defs.specs.Files.{Files, file_at}
-use Rattle.ig_defs.specs.Own.{File}
+use Rattle.ig_defs.specs.Own.{File, put_all}
 use Rattle.ig_cutout.specs.declared.types.Output.{Output}
 use Rattle.ig_cutout.specs.Outputs.{output_of}
 use Rattle.ig_record.specs.declared.stage.Stage.{Stage}
@@ -24,6 +24,11 @@ files_put-append (x ∷ xs) ys = ap (λ rest. file_put x.path x.text ++ rest) (f
 pub files_put-of : (files : List File) → files_put (map output_of files) ≡ files
 files_put-of [] = refl
 files_put-of (file ∷ files) = ap (λ rest. file ∷ rest) (files_put-of files)
+
+-- outputs that put files put them
+pub with_outputs-put : (now : Files) (files : List File) → with_outputs now (map output_of files) ≡ put_all now files
+with_outputs-put now [] = refl
+with_outputs-put now (file ∷ files) = with_outputs-put (with_text now file.path (Some file.bytes)) files
 
 -- ---- jobs
 pub run_jobs-append : (ran : Ran) (xs ys : List Job) → run_jobs ran (xs ++ ys) ≡ run_jobs (run_jobs ran xs) ys

@@ -11,7 +11,7 @@ use Rattle.ig_rule.specs.Stages.{Named, task_id}
 use Rattle.ig_record.specs.declared.stage.Stage.{Stage}
 use Rattle.ig_record.specs.Stage.{task_count}
 use Rattle.ig_meaning.specs.QueueActs.{IsContinuation, name_file, put_of, seal_file}
-use Rattle.ig_meaning.specs.Stage.{info_files}
+use Rattle.ig_meaning.specs.Jobs.{info_files}
 use Rattle.ig_task.specs.Pipeline.{is_allowed}
 use Rattle.ig_task.specs.declared.pipeline.Pipeline.{Pipeline}
 use Rattle.ig_stage.specs.Listings.{DoesListAll}

@@ -8,7 +8,7 @@ use Rattle.ig_defs.specs.Log.{Log, ByOthers, after, files_of}
 use Rattle.ig_defs.specs.Names.{StandsThroughout}
 use Rattle.ig_defs.specs.Own.{Moment}
 use Rattle.ig_meaning.specs.Making.{Making}
-use Rattle.ig_meaning.specs.Stage.{file_of}
+use Rattle.ig_meaning.specs.Jobs.{file_of}
 use Rattle.ig_meaning.specs.QueueWords.{is_apart}
 use Rattle.ig_meaning.specs.Taken.{taken_by}
 use Rattle.ig_meaning.specs.TakenLaws.{HasNoneOf, none_in, not_taken, the_only}
@@ -201,6 +201,16 @@ all_empty rule q stages dests n files over so = λ k dest is.
 dirs_of_copy : (s : Stage) (dest : Place) → s.kind ≡ Xfer → s.dests ≡ dest ∷ [] → output_dirs s ≡ dest.dir ∷ []
 dirs_of_copy s dest copies one = ap (λ kind. dirs_by kind s) copies ∙ ap dirs_of_all one
 
+-- it writes one scale
+record IsOneDest (s : Stage) : Type 0 where
+  dest : Place
+  dests : s.dests ≡ dest ∷ []
+  dirs : output_dirs s ≡ dest.dir ∷ []
+
+one_dest : (s : Stage) → IsSoundKind s → is_some (removed_dir s) ≡ false → IsOneDest s
+one_dest s (is_xfer is none c) makes = record { dest = c.dest; dests = c.dests_are; dirs = dirs_of_copy s c.dest is c.dests_are }
+one_dest s (is_remove is none r) makes = absurd (true≢false (sym (ap (λ kind. is_some (removed_by kind s)) is) ∙ makes))
+
 -- Where the info was not there and its directories are empty, its place is free.
 pub is_free : {T : Type 0} (request : Request) (rule now : Pipeline) (q : List ℕ) (stages : List Stage) (s : Stage) (making : List Moment → Making) (next : T → List Moment → Making)
     (old new : Log) (result : Result T MakeError) → now ≡ rule → is_apart q request.source ≡ true → is_apart q request.dest ≡ true → IsPlanned request s → CanRun s → taken_by stages s ≡ None
@@ -214,8 +224,8 @@ is_free {T = T} request rule now q stages s making next old new result same sour
       (info_of_none q stages (files_of old) k.knows s free info has (named_info s info can.sound has))
       ∙ fresh info has;
   empty = λ path l.
-      empty here 0 can.dest (ap (λ dests. slice_get dests 0) can.copy.dests) path
-      (subst (λ d. LiesIn d path) (sym (the_only can.dest.dir l.dir (subst (λ among. Contains among l.dir) dirs l.one))) l.lies)
+      empty here 0 one.dest (ap (λ dests. slice_get dests 0) one.dests) path
+      (subst (λ d. LiesIn d path) (sym (the_only one.dest.dir l.dir (subst (λ among. Contains among l.dir) one.dirs l.one))) l.lies)
       (λ x. no_queue_path q l.dir path x (outside.outputs l.dir l.one) l.lies)
       (output_of_none q stages (files_of old) k.knows s free l.dir path l.one l.lies);
 }
@@ -226,5 +236,5 @@ is_free {T = T} request rule now q stages s making next old new result same sour
     outside : IsOutsideQueue q (facts_of 0 s)
     outside = outside-copy q request planned.bytes s 0 planned.is source dest
 
-    dirs : output_dirs s ≡ can.dest.dir ∷ []
-    dirs = dirs_of_copy s can.dest can.copy.kind can.copy.dests
+    one : IsOneDest s
+    one = one_dest s (sound-kind s can.sound) can.makes

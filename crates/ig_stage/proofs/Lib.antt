@@ -1,7 +1,6 @@
 pub mod Dids
 pub mod Turns
 pub mod OthersLooks
-pub mod InfoApart
 pub mod InfoTexts
 pub mod Drafts
 pub mod Sounds

@@ -103,7 +103,7 @@ module _ (want : List Request) (request : Request) (one : want ≡ request ∷ [
     -- memory ran out before the run
     pub local_not_begun : (e : LocalError) (result : Result (List RanStage) LocalError) → result ≡ Err e → ending_of_local e ≡ NoMemory → CanRun s → RanLocal want old mid result
     local_not_begun e result is memory can =
-        local_failed mid e result is (subst (Runs s mid mid) (sym memory) (info_failed s can.dest can.info can.copy mid mid NoMemory (did_nothing mid)))
+        local_failed mid e result is (subst (Runs s mid mid) (sym memory) (info_failed s can mid mid NoMemory (did_nothing mid)))
 
     -- it was run
     pub local_done : (new : Log) (ran : List RanStage) → ran ≡ ran_of s ∷ [] → Runs s mid new (ending_of {T = List RanStage} (Ok ran)) → RanLocal want old new (Ok ran)

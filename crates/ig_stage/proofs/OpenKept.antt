@@ -28,7 +28,7 @@ use Rattle.ig_record.specs.declared.stage.InfoFile.{InfoFile}
 use Rattle.ig_record.specs.declared.stage.Stage.{Stage}
 use Rattle.ig_record.specs.Record.{task_text}
 use Rattle.ig_record.specs.Stage.{task_count}
-use Rattle.ig_meaning.specs.Stage.{file_of}
+use Rattle.ig_meaning.specs.Jobs.{file_of}
 use Rattle.ig_task.specs.Facts.{facts_of, stage_reader}
 use Rattle.ig_task.specs.Maker.{Others}
 use Rattle.ig_stage.specs.Open.{AllNamed, HasInfo, IsOpen}

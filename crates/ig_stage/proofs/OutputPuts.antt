@@ -6,26 +6,18 @@ use Rattle.ig_defs.specs.declared.step.Act.TheVariants as act
 use Rattle.ig_defs.specs.Log.{Log}
 use Rattle.ig_defs.specs.Own.{File}
 use Rattle.ig_meaning.specs.Ending.{Ending, Finished, Refuses, StoreFailed, NoMemory}
+use Rattle.ig_meaning.specs.JobLaws.{files_put-append}
+use Rattle.ig_meaning.specs.Jobs.{file_put, files_put}
 use Rattle.ig_cutout.specs.declared.types.Output.{Output}
 use Rattle.ig_cutout.specs.Outputs.{output_of}
 use Rattle.ig_stage.specs.Did.{Did, not_made, was_made}
-use Rattle.ig_stage.specs.Running.{FailsToPut, FailsToPutAll, PutSoFar, PutsFile, PutsSome, PutsOutputs, ending_of_local, file_put, files_put, puts_all}
+use Rattle.ig_stage.specs.Running.{FailsToPut, FailsToPutAll, PutSoFar, PutsFile, PutsSome, PutsOutputs, ending_of_local, puts_all}
 use Rattle.ig_stage.specs.declared.error.LocalError.{LocalError}
 use Rattle.ig_stage.proofs.Dids.{did_nothing, did_then}
 
 pub puts_all-append : (files more : List File) → puts_all (files ++ more) ≡ puts_all files ++ puts_all more
 puts_all-append [] more = refl
 puts_all-append (file ∷ files) more = ap (λ acts. act.Put file.path file.bytes ∷ acts) (puts_all-append files more)
-
-files_put-append : (outputs more : List Output) → files_put (outputs ++ more) ≡ files_put outputs ++ files_put more
-files_put-append [] more = refl
-files_put-append (output ∷ outputs) more =
-    ap (λ rest. file_put output.path output.text ++ rest) (files_put-append outputs more) ∙ sym (append_assoc (file_put output.path output.text) (files_put outputs) (files_put more))
-
--- outputs that put these files put them
-pub files_put-map : (files : List File) → files_put (map output_of files) ≡ files
-files_put-map [] = refl
-files_put-map (file ∷ files) = ap (λ rest. file ∷ rest) (files_put-map files)
 
 puts_more : (outputs : List Output) (n : ℕ) (output : Output) → n < length outputs → output ≡ get_or outputs n output
     → puts_all (files_put (take (n + 1) outputs)) ≡ puts_all (files_put (take n outputs)) ++ puts_all (file_put output.path output.text)

@@ -54,7 +54,7 @@ module _ (q : List ℕ) (stages : List Stage) (s : Stage) (files : Files) (a : A
     sealed = λ n below. subst IsSome (sym (maker_keeps stage_reader kinds q files a can.free.knows.sound may (Seal n) refl)) (can.sealed n below);
     all_sound = can.all_sound;
     sound = can.sound;
-    copies = can.copies;
+    makes = can.makes;
     not_taken = can.not_taken;
     outside = can.outside;
     few = can.few;
@@ -65,7 +65,7 @@ module _ (q : List ℕ) (stages : List Stage) (s : Stage) (files : Files) (a : A
 record_allowed : (q : List ℕ) (stages : List Stage) (s : Stage) (files : Files) → CanRecord q stages s files
     → Allowed stage_reader q files (act.Put (record_path q (length stages)) (record_text (length stages) s))
 record_allowed q stages s files can =
-    a_record (puts_record q stages s files can.free.knows can.all_sound can.sound can.copies can.not_taken can.outside can.free.empty can.free.no_info can.few can.sealed)
+    a_record (puts_record q stages s files can.free.knows can.all_sound can.sound can.makes can.not_taken can.outside can.free.empty can.free.no_info can.few can.sealed)
 
 record_opens : (q : List ℕ) (stages : List Stage) (s : Stage) (files : Files) → CanRecord q stages s files
     → IsOpen q (length stages) s (after files (act.Put (record_path q (length stages)) (record_text (length stages) s)))

@@ -1,30 +1,28 @@
--- Each end of a run of a copy.
-use Rattle.std.proofs.Common.{arith, ◌≡◌, ◌<◌, ◌≤◌, ◌+◌, ◌-◌, ℕ, zero, suc, List, [], ◌∷◌, ◌++◌, length, take, drop, None, Some, Result, Err, refl, sym, ap, subst, ◌∙◌}
+-- Each end of a run of a stage that makes files.
+use Rattle.std.proofs.Common.{arith, ◌≡◌, ◌<◌, ◌≤◌, ◌+◌, ◌-◌, ℕ, zero, suc, List, [], ◌∷◌, ◌++◌, length, take, drop, map, None, Some, Result, Err, refl, sym, ap, subst, ◌∙◌}
 use Rattle.std.proofs.lemmas.List.{append-nil, append_assoc, take-append-drop, length-take}
-use Rattle.ig_space.specs.declared.place.Place.{Place}
-use Rattle.ig_space.specs.CellBoxes.{chunks-IsGrid}
-use Rattle.ig_space.specs.Cells.{low-in_cell, number_at-below}
-use Rattle.ig_space.specs.Grid.{chunks_of, hull}
-use Rattle.ig_space.specs.Hulls.{hull-IsGrid, hull-holds}
 use Rattle.ig_defs.specs.declared.step.Act.{Act}
 use Rattle.ig_defs.specs.declared.step.Act.TheVariants as act
 use Rattle.ig_defs.specs.Files.{Files, file_at}
 use Rattle.ig_defs.specs.Log.{Log, files_of}
 use Rattle.ig_defs.specs.Own.{File, put_all, puts_of}
-use Rattle.ig_meaning.specs.Copies.{IsCopy, IsElsewhere}
+use Rattle.ig_meaning.specs.Agreeing.{refused-none}
 use Rattle.ig_meaning.specs.Ending.{AreFirst, Ending, Finished, Refuses, StoreFailed, NoMemory}
 use Rattle.ig_meaning.specs.Fault.{fault_of_run, fault_of_tasks, finds_in, finds_of}
+use Rattle.ig_meaning.specs.Finds.{fault_of_tasks-goes_on, fault_of_tasks-refuses, fault_of_tasks-unread}
+use Rattle.ig_meaning.specs.JobLaws.{changes-grow, files_put-append, files_put-of, ran-made, ran-refused, ran_first, run-stops}
+use Rattle.ig_meaning.specs.Jobs.{Ran, file_of, files_put, info_files, planned_puts, with_info}
 use Rattle.ig_meaning.specs.Refusal.{Refusal}
-use Rattle.ig_meaning.specs.RefusedTasks.{refused-none}
-use Rattle.ig_meaning.specs.Sequential.{sequential-wanted}
+use Rattle.ig_cutout.specs.declared.types.Output.{Output}
+use Rattle.ig_cutout.specs.Outputs.{output_of}
 use Rattle.ig_record.specs.declared.stage.Stage.{Stage}
 use Rattle.ig_record.specs.declared.stage.InfoFile.{InfoFile}
 use Rattle.ig_record.specs.Columns.{inputs_of}
-use Rattle.ig_record.specs.Stage.{task_box, task_count, task_grid}
-use Rattle.ig_meaning.specs.Stage.{file_of, info_files, input_count, input_path, planned_puts, run_tasks}
-use Rattle.ig_meaning.specs.TaskBoxes.{task_box-within, task_grid-IsGrid}
-use Rattle.ig_meaning.specs.Tasks.{fault_of_tasks-goes_on, fault_of_tasks-refuses, fault_of_tasks-unread, files-stop, inputs_of-copy, length-listed, puts-grow, puts-stop, run_tasks-next, run_tasks-refuses}
+use Rattle.ig_record.specs.Stage.{task_count}
+use Rattle.ig_task.specs.OwnInputs.{inputs-some}
+use Rattle.ig_task.specs.Runs.{sequential-is_wanted}
 use Rattle.ig_stage.specs.Did.{Did, not_made, was_made, after_all, moments_from}
+use Rattle.ig_stage.specs.Drafts.{CanRun}
 use Rattle.ig_stage.specs.Running.{FailsTask, FailsToPut, PutsOfTask, Runs, RunsSome, in_reading, in_putting, while_reading, while_putting, ending_of, ending_of_local, puts_all, reads_all}
 use Rattle.ig_stage.specs.declared.error.LocalError.{LocalError}
 use Rattle.ig_stage.proofs.InputReads.{after-reads}
@@ -42,33 +40,34 @@ few_of xs n fewer = let long = length-take n xs in omega (arith, long, fewer)
 first_of-more : {A : Type 0} (xs more all : List A) → all ≡ xs ++ more → AreFirst xs all
 first_of-more xs more all is = record { number = length xs; are = sym (ap (take (length xs)) is ∙ take-all xs more) }
 
-module _ (s : Stage) (dest : Place) (info : InfoFile) (copy : IsCopy s dest info) where
-  -- each task has an input
-  inputs-some : (k : ℕ) → k < task_count s → 0 < length (inputs_of s k)
-  inputs-some k below =
-      let g = chunks_of s.source.geometry in
-      let grid = chunks-IsGrid s.source.geometry copy.source_fits in
-      let box = task_box s k in
-      let within = task_box-within s dest info copy k below in
-      let inside = hull-holds g box grid within _ _ _ (low-in_cell (task_grid s) (task_grid-IsGrid s dest info copy) k below) in
-      let lower = number_at-below (hull g box) (hull-IsGrid g box grid within) _ _ _ inside in
-      subst (λ n. 0 < n) (sym (ap length (inputs_of-copy s copy.kind k) ∙ length-listed (input_path s k) (input_count s k))) (omega (arith, lower))
-
+module _ (s : Stage) (can : CanRun s) where
   -- where nothing more was read there is no refusal
   no_more : (left k : ℕ) → left + k ≤ task_count s → fault_of_tasks s left k [] ≡ None
   no_more zero k few = refl
-  no_more (suc left) k few = fault_of_tasks-unread s (suc left) k (λ path. None) [] (inputs-some k (omega (arith, few)))
+  no_more (suc left) k few = fault_of_tasks-unread s (suc left) k (λ path. None) [] (inputs-some s can.sound can.makes k (omega (arith, few)))
 
   module _ (old : Log) where
     begun : Files
-    begun = put_all (files_of old) (info_files s.info)
+    begun = with_info s.info (files_of old)
 
-    -- the plan begins with what the first tasks put
-    plan_goes_on : (n : ℕ) → n ≤ task_count s → (rest : List File) × (planned_puts s (files_of old) ≡ (info_files s.info ++ (run_tasks s begun n).puts) ++ rest)
-    unfolding begun
+    -- what the first tasks put
+    first_puts : ℕ → List File
+    first_puts n = files_put (ran_first s begun n).changes
+
+    -- the plan: the info, and what the tasks put
+    plan : planned_puts s (files_of old) ≡ info_files s.info ++ first_puts (task_count s)
+    unfolding begun first_puts
+    plan =
+        files_put-append (map output_of (info_files s.info)) (ran_first s (with_info s.info (files_of old)) (task_count s)).changes
+        ∙ ap (λ first. first ++ files_put (ran_first s (with_info s.info (files_of old)) (task_count s)).changes) (files_put-of (info_files s.info))
+
+    -- it begins with what the first tasks put
+    plan_goes_on : (n : ℕ) → n ≤ task_count s → (rest : List File) × (planned_puts s (files_of old) ≡ (info_files s.info ++ first_puts n) ++ rest)
+    unfolding first_puts
     plan_goes_on n few =
-        let p = puts-grow s begun n (task_count s) few in
-        (p.0, ap (λ puts. info_files s.info ++ puts) p.1 ∙ sym (append_assoc (info_files s.info) (run_tasks s begun n).puts p.0))
+        let p = changes-grow s begun n (task_count s) few in
+        (files_put p.0, plan ∙ ap (λ puts. info_files s.info ++ puts) (ap files_put p.1 ∙ files_put-append (ran_first s begun n).changes p.0)
+            ∙ sym (append_assoc (info_files s.info) (files_put (ran_first s begun n).changes) (files_put p.0)))
 
     no_memory : (new : Log) (acts : List Act) → Did old new acts → after_all (files_of old) acts ≡ put_all (files_of old) (puts_of (moments_from (files_of old) acts))
         → AreFirst (puts_of (moments_from (files_of old) acts)) (planned_puts s (files_of old)) → Runs s old new NoMemory
@@ -81,23 +80,23 @@ module _ (s : Stage) (dest : Place) (info : InfoFile) (copy : IsCopy s dest info
     idle : fault_of_tasks s (task_count s) 0 [] ≡ None
     idle = no_more (task_count s) 0 (omega arith)
 
-    one_info : planned_puts s (files_of old) ≡ file_of info ∷ (run_tasks s begun (task_count s)).puts
-    unfolding begun
-    one_info = ap (λ i. info_files i ++ (run_tasks s (put_all (files_of old) (info_files s.info)) (task_count s)).puts) copy.has_info
+    one_info : planned_puts s (files_of old) ≡ file_of can.info ∷ first_puts (task_count s)
+    one_info = plan ∙ ap (λ i. info_files i ++ first_puts (task_count s)) can.has_info
 
     -- the info was not put
-    pub info_failed : (new : Log) (e : Ending) → FailsToPut old new info.path info.text e → Runs s old new e
+    pub info_failed : (new : Log) (e : Ending) → FailsToPut old new can.info.path can.info.text e → Runs s old new e
     info_failed new StoreFailed (not_made did) = store_failed new [] did refl idle (first_of-more [] (planned_puts s (files_of old)) (planned_puts s (files_of old)) refl)
     info_failed new StoreFailed (was_made did) =
-        store_failed new (act.Put info.path info.text ∷ []) did refl idle (first_of-more (file_of info ∷ []) (run_tasks s begun (task_count s)).puts (planned_puts s (files_of old)) one_info)
+        store_failed new (act.Put can.info.path can.info.text ∷ []) did refl idle (first_of-more (file_of can.info ∷ []) (first_puts (task_count s)) (planned_puts s (files_of old)) one_info)
     info_failed new NoMemory did = no_memory new [] did refl (first_of-more [] (planned_puts s (files_of old)) (planned_puts s (files_of old)) refl)
     info_failed new (Refuses r) fails = absurd fails
     info_failed new Finished fails = absurd fails
 
     -- all tasks were run
-    pub all_done : IsElsewhere s dest info → (new : Log) → RunsSome s old new (task_count s) → Runs s old new Finished
-    all_done elsewhere new so =
-        let w = sequential-wanted s dest info copy elsewhere (files_of old) (files_of new) so.now in
+    pub all_done : (new : Log) → RunsSome s old new (task_count s) → Runs s old new Finished
+    unfolding begun first_puts
+    all_done new so =
+        let w = sequential-is_wanted s can.sound can.elsewhere (files_of old) (files_of new) so.now in
         let left_them = so.did.files ∙ so.files in
         let none : task_count s - task_count s ≡ 0 = omega arith in record {
           acts = so.acts;
@@ -106,7 +105,7 @@ module _ (s : Stage) (dest : Place) (info : InfoFile) (copy : IsCopy s dest info
           run = record {
             fault = ap (fault_of_tasks s (task_count s) 0) (sym (append-nil (finds_of (moments_from (files_of old) so.acts)))) ∙ so.fault []
                 ∙ ap (λ m. fault_of_tasks s m (task_count s) []) none;
-            puts = so.puts;
+            puts = so.puts ∙ sym plan;
             reads = so.reads;
             wanted = record { outputs = w.0; wanted = w.1; put = sym left_them ∙ sym w.2 };
             refused = tt;
@@ -121,8 +120,8 @@ module _ (s : Stage) (dest : Place) (info : InfoFile) (copy : IsCopy s dest info
       read_files new paths did = all_files s old mid new n below so (reads_all paths) did [] (puts_of-reads (files_of mid) paths) (after-reads (files_of mid) paths)
 
       read_puts : (new : Log) (paths : List (List ℕ)) → Did mid new (reads_all paths)
-          → puts_of (moments_from (files_of old) (so.acts ++ reads_all paths)) ≡ info_files s.info ++ (run_tasks s begun n).puts
-      unfolding begun
+          → puts_of (moments_from (files_of old) (so.acts ++ reads_all paths)) ≡ info_files s.info ++ first_puts n
+      unfolding begun first_puts
       read_puts new paths did =
           all_puts s old mid new n below so (reads_all paths) did ∙ ap (λ last. puts_of (moments_from (files_of old) so.acts) ++ last) (puts_of-reads (files_of mid) paths)
           ∙ append-nil (puts_of (moments_from (files_of old) so.acts)) ∙ so.puts
@@ -145,21 +144,22 @@ module _ (s : Stage) (dest : Place) (info : InfoFile) (copy : IsCopy s dest info
 
       -- the task refused
       task_refused : (new : Log) (r : Refusal) → FailsTask s n mid new (Refuses r) → Runs s old new (Refuses r)
-      unfolding begun
+      unfolding begun first_puts
       task_refused new r h =
           let paths = inputs_of s n in
-          let stops = run_tasks-refuses s begun n (files_of mid) so.now (refused-none s dest info copy n below (file_at (files_of mid)) r h.1) in record {
+          let next = ran-refused s begun n (files_of mid) so.now (refused-none s n (file_at (files_of mid)) r h.1) in
+          let stops = run-stops s begun (suc n) (task_count s) below (ap (λ (t : Ran). t.files) next) in record {
             acts = so.acts ++ reads_all paths;
             did = all_did s old mid new n below so (reads_all paths) h.0;
             files = read_files new paths h.0;
             run = record {
               fault = read_fault new paths h.0 ∙ ap (λ m. fault_of_tasks s m n (finds_in (file_at (files_of mid)) paths)) left
-                  ∙ fault_of_tasks-refuses s copy.kind (task_count s - (n + 1)) n (file_at (files_of mid)) r h.1;
+                  ∙ fault_of_tasks-refuses s (task_count s - (n + 1)) n (file_at (files_of mid)) r h.1;
               puts = read_puts new paths h.0
-                  ∙ ap (λ puts. info_files s.info ++ puts) (sym stops.1 ∙ sym (puts-stop s begun (suc n) (task_count s) below stops.0));
+                  ∙ ap (λ puts. info_files s.info ++ puts) (sym (ap (λ (t : Ran). files_put t.changes) next) ∙ sym (ap files_put stops.same)) ∙ sym plan;
               reads = tt;
               wanted = tt;
-              refused = files-stop s begun (suc n) (task_count s) below stops.0;
+              refused = stops.stopped;
               sequential = tt;
             };
           }
@@ -173,22 +173,24 @@ module _ (s : Stage) (dest : Place) (info : InfoFile) (copy : IsCopy s dest info
         unfolding put_acts
         put_files = all_files s old mid new n below so put_acts part.did (take number outputs) (puts_of-task s n (files_of mid) (take number outputs)) (after-task s n (files_of mid) (take number outputs))
 
-        put_puts : puts_of (moments_from (files_of old) (so.acts ++ put_acts)) ≡ (info_files s.info ++ (run_tasks s begun n).puts) ++ take number outputs
-        unfolding put_acts begun
+        put_puts : puts_of (moments_from (files_of old) (so.acts ++ put_acts)) ≡ (info_files s.info ++ first_puts n) ++ take number outputs
+        unfolding put_acts begun first_puts
         put_puts =
             all_puts s old mid new n below so put_acts part.did
             ∙ ap (λ last. puts_of (moments_from (files_of old) so.acts) ++ last) (puts_of-task s n (files_of mid) (take number outputs)) ∙ ap (λ first. first ++ take number outputs) so.puts
 
         -- the plan goes on with all of the outputs
-        put_plan : (rest : List File) × (planned_puts s (files_of old) ≡ ((info_files s.info ++ (run_tasks s begun n).puts) ++ take number outputs) ++ rest)
-        unfolding begun
+        put_plan : (rest : List File) × (planned_puts s (files_of old) ≡ ((info_files s.info ++ first_puts n) ++ take number outputs) ++ rest)
+        unfolding begun first_puts
         put_plan =
-            let next = run_tasks-next s begun n (files_of mid) outputs so.now part.made in
+            let made = ran-made s begun n (files_of mid) (map output_of outputs) so.now part.made in
+            let next : first_puts (suc n) ≡ first_puts n ++ outputs
+            = ap (λ (t : Ran). files_put t.changes) made ∙ files_put-append (ran_first s begun n).changes (map output_of outputs) ∙ ap (λ last. first_puts n ++ last) (files_put-of outputs) in
             let p = plan_goes_on (suc n) below in
-            let first = info_files s.info ++ (run_tasks s begun n).puts in (
+            let first = info_files s.info ++ first_puts n in (
               drop number outputs ++ p.0,
-              p.1 ∙ ap (λ puts. (info_files s.info ++ puts) ++ p.0) next.1
-                  ∙ ap (λ puts. puts ++ p.0) (sym (append_assoc (info_files s.info) (run_tasks s begun n).puts outputs))
+              p.1 ∙ ap (λ puts. (info_files s.info ++ puts) ++ p.0) next
+                  ∙ ap (λ puts. puts ++ p.0) (sym (append_assoc (info_files s.info) (first_puts n) outputs))
                   ∙ ap (λ all. (first ++ all) ++ p.0) (sym (take-append-drop number outputs))
                   ∙ ap (λ puts. puts ++ p.0) (sym (append_assoc first (take number outputs) (drop number outputs)))
                   ∙ append_assoc (first ++ take number outputs) (drop number outputs) p.0,
@@ -204,7 +206,7 @@ module _ (s : Stage) (dest : Place) (info : InfoFile) (copy : IsCopy s dest info
             ap (fault_of_tasks s (task_count s) 0) (sym (append-nil (finds_of (moments_from (files_of old) (so.acts ++ put_acts)))) ∙ all_finds s old mid new n below so put_acts part.did []
             ∙ ap (λ found. finds_of (moments_from (files_of old) so.acts) ++ (found ++ [])) (finds_of-task s n (files_of mid) (take number outputs)))
             ∙ so.fault (finds ++ []) ∙ ap (λ m. fault_of_tasks s m n (finds ++ [])) left
-            ∙ fault_of_tasks-goes_on s copy.kind (task_count s - (n + 1)) n (file_at (files_of mid)) [] part.fine
+            ∙ fault_of_tasks-goes_on s (task_count s - (n + 1)) n (file_at (files_of mid)) [] part.fine
             ∙ no_more (task_count s - (n + 1)) (n + 1) (omega (arith, below))
 
         put_did : Did old new (so.acts ++ put_acts)

@@ -1,8 +1,7 @@
--- A run of a copy, task by task.
-use Rattle.std.proofs.Common.{arith, ◌≡◌, ◌<◌, ◌+◌, ◌-◌, ℕ, suc, List, [], ◌∷◌, ◌++◌, length, take, Some, refl, sym, ap, subst, ◌∙◌}
+-- A run of a stage that makes files, task by task.
+use Rattle.std.proofs.Common.{arith, ◌≡◌, ◌<◌, ◌+◌, ◌-◌, ℕ, suc, List, [], ◌∷◌, ◌++◌, length, take, map, Some, refl, sym, ap, subst, ◌∙◌}
 use Rattle.std.proofs.Math.Seq.{take-length}
 use Rattle.std.proofs.lemmas.List.{append-nil, append_assoc}
-use Rattle.ig_space.specs.declared.place.Place.{Place}
 use Rattle.ig_space.specs.Chunks.{listed}
 use Rattle.ig_defs.specs.declared.step.Act.{Act}
 use Rattle.ig_defs.specs.declared.step.Act.TheVariants as act
@@ -10,15 +9,17 @@ use Rattle.ig_defs.specs.Files.{Files, file_at}
 use Rattle.ig_defs.specs.Log.{Log, files_of}
 use Rattle.ig_defs.specs.Own.{File, put_all, puts_of, reads_of}
 use Rattle.ig_defs.specs.Puts.{put_all-append}
-use Rattle.ig_meaning.specs.Copies.{IsCopy}
 use Rattle.ig_meaning.specs.Fault.{Find, fault_of_tasks, finds_in, finds_of}
 use Rattle.ig_record.specs.declared.stage.Stage.{Stage}
 use Rattle.ig_record.specs.declared.stage.InfoFile.{InfoFile}
-use Rattle.ig_record.specs.declared.stage.Kind.TheVariants.{Xfer}
 use Rattle.ig_record.specs.Columns.{inputs_of}
 use Rattle.ig_record.specs.Stage.{task_count}
-use Rattle.ig_meaning.specs.Stage.{flattened, info_files, run_tasks}
-use Rattle.ig_meaning.specs.Tasks.{fault_of_tasks-goes_on, run_tasks-next}
+use Rattle.ig_cutout.specs.Outputs.{output_of}
+use Rattle.ig_meaning.specs.Finds.{fault_of_tasks-goes_on}
+use Rattle.ig_meaning.specs.JobLaws.{files_put-append, files_put-of, ran-made, ran_first, with_outputs-put}
+use Rattle.ig_meaning.specs.Jobs.{Ran, files_put, info_files, with_info}
+use Rattle.ig_meaning.specs.Sequential.{flattened-next}
+use Rattle.ig_meaning.specs.Wants.{flattened}
 use Rattle.ig_stage.specs.Did.{Did, after_all, moments_from}
 use Rattle.ig_stage.specs.Running.{RunsSome, TaskDone, puts_all, reads_all}
 use Rattle.ig_stage.proofs.Dids.{did_then, moments_from-append, after_all-append}
@@ -56,18 +57,14 @@ module _ (s : Stage) (k : ℕ) (files : Files) (outputs : List File) where
   after-task =
       after_all-append files (reads_all (inputs_of s k)) (puts_all outputs) ∙ ap (λ now. after_all now (puts_all outputs)) (after-reads files (inputs_of s k)) ∙ after-puts files outputs
 
-flattened-append : {A : Type 0} (xss yss : List (List A)) → flattened (xss ++ yss) ≡ flattened xss ++ flattened yss
-flattened-append [] yss = refl
-flattened-append (xs ∷ xss) yss = ap (λ rest. xs ++ rest) (flattened-append xss yss) ∙ sym (append_assoc xs (flattened xss) (flattened yss))
-
 -- ---- the run begins with its info
-pub run_begins : (s : Stage) (dest : Place) (info : InfoFile) → IsCopy s dest info → (old new : Log) → Did old new (act.Put info.path info.text ∷ []) → RunsSome s old new 0
-run_begins s dest info copy old new did = record {
+pub run_begins : (s : Stage) (info : InfoFile) → s.info ≡ Some info → (old new : Log) → Did old new (act.Put info.path info.text ∷ []) → RunsSome s old new 0
+run_begins s info has old new did = record {
   acts = act.Put info.path info.text ∷ [];
   did = did;
   files = refl;
-  now = ap (λ i. Some (put_all (files_of old) (info_files i))) copy.has_info ∙ ap Some (sym did.files);
-  puts = ap (λ i. info_files i ++ []) (sym copy.has_info);
+  now = ap (λ i. Some (with_info i (files_of old))) has ∙ ap Some (sym did.files);
+  puts = ap (λ i. info_files i ++ []) (sym has);
   reads = refl;
   fault = λ rest. let all : task_count s ≡ task_count s - 0 = omega arith in ap (λ m. fault_of_tasks s m 0 rest) all;
 }
@@ -112,28 +109,31 @@ module _ (s : Stage) (old mid new : Log) (n : ℕ) (below : n < task_count s) (s
   task_whole : (outputs : List File) (number : ℕ) → number ≡ length outputs → take number outputs ≡ outputs
   task_whole outputs number is = ap (λ m. take m outputs) is ∙ take-length outputs
 
-  pub run_goes_on : s.kind ≡ Xfer → TaskDone s n mid new → RunsSome s old new (n + 1)
-  run_goes_on copies done =
+  pub run_goes_on : TaskDone s n mid new → RunsSome s old new (n + 1)
+  run_goes_on done =
       let outputs = done.outputs in
       let acts = reads_all (inputs_of s n) ++ puts_all outputs in
       let did : Did mid new acts = subst (λ files. Did mid new (reads_all (inputs_of s n) ++ puts_all files)) (take-length outputs) done.puts.did in
-      let next = run_tasks-next s (put_all (files_of old) (info_files s.info)) n (files_of mid) outputs so.now done.puts.made in
+      let begun = with_info s.info (files_of old) in
+      let next = ran-made s begun n (files_of mid) (map output_of outputs) so.now done.puts.made in
       let left_them = after-task s n (files_of mid) outputs in
       record {
         acts = so.acts ++ acts;
         did = all_did acts did;
         files = all_files acts did outputs (puts_of-task s n (files_of mid) outputs) left_them;
-        now = ap (λ m. (run_tasks s (put_all (files_of old) (info_files s.info)) m).files) one_more ∙ next.0 ∙ ap Some (sym (did.files ∙ left_them));
+        now = ap (λ m. (ran_first s begun m).files) one_more ∙ ap (λ (r : Ran). r.files) next ∙ ap Some (with_outputs-put (files_of mid) outputs ∙ sym (did.files ∙ left_them));
         puts = all_puts acts did ∙ ap (λ last. puts_of (moments_from (files_of old) so.acts) ++ last) (puts_of-task s n (files_of mid) outputs)
             ∙ ap (λ first. first ++ outputs) so.puts
-            ∙ append_assoc (info_files s.info) (run_tasks s (put_all (files_of old) (info_files s.info)) n).puts outputs
-            ∙ ap (λ puts. info_files s.info ++ puts) (sym (ap (λ m. (run_tasks s (put_all (files_of old) (info_files s.info)) m).puts) one_more ∙ next.1));
+            ∙ append_assoc (info_files s.info) (files_put (ran_first s begun n).changes) outputs
+            ∙ ap (λ puts. info_files s.info ++ puts)
+              (sym (ap (λ m. files_put (ran_first s begun m).changes) one_more ∙ ap (λ (r : Ran). files_put r.changes) next
+              ∙ files_put-append (ran_first s begun n).changes (map output_of outputs) ∙ ap (λ last. files_put (ran_first s begun n).changes ++ last) (files_put-of outputs)));
         reads = all_reads acts did ∙ ap (λ last. reads_of (moments_from (files_of old) so.acts) ++ last) (reads_of-task s n (files_of mid) outputs)
             ∙ ap (λ first. first ++ inputs_of s n) so.reads
-            ∙ sym (ap (λ m. flattened (listed (inputs_of s) m)) one_more ∙ flattened-append (listed (inputs_of s) n) (inputs_of s n ∷ []) ∙ ap (λ last. flattened (listed (inputs_of s) n) ++ last) (append-nil (inputs_of s n)));
+            ∙ sym (ap (λ m. flattened (listed (inputs_of s) m)) one_more ∙ flattened-next (inputs_of s) n);
         fault = λ rest.
             ap (fault_of_tasks s (task_count s) 0) (all_finds acts did rest ∙ ap (λ found. finds_of (moments_from (files_of old) so.acts) ++ (found ++ rest)) (finds_of-task s n (files_of mid) outputs))
             ∙ so.fault (finds_in (file_at (files_of mid)) (inputs_of s n) ++ rest)
             ∙ ap (λ m. fault_of_tasks s m n (finds_in (file_at (files_of mid)) (inputs_of s n) ++ rest)) left
-            ∙ fault_of_tasks-goes_on s copies (task_count s - (n + 1)) n (file_at (files_of mid)) rest done.puts.fine;
+            ∙ fault_of_tasks-goes_on s (task_count s - (n + 1)) n (file_at (files_of mid)) rest done.puts.fine;
       }

@@ -5,7 +5,8 @@ use Rattle.std.specs.Str.{bytes_eq}
 use Rattle.ig_space.specs.Path.{joined}
 use Rattle.ig_layer.specs.Faults.{or_else}
 use Rattle.ig_meaning.specs.Refusal.{Taken}
-use Rattle.ig_meaning.specs.Stage.{file_of, unfit}
+use Rattle.ig_meaning.specs.Jobs.{file_of}
+use Rattle.ig_meaning.specs.Stage.{unfit}
 use Rattle.ig_meaning.specs.Taken.{has_info_among, removes_one, share_one, taker_from, takes, unfit_after}
 use Rattle.ig_record.specs.declared.stage.InfoFile.{InfoFile}
 use Rattle.ig_record.specs.declared.stage.Kind.{Kind}

@@ -1,5 +1,5 @@
 -- A planned copy that fits is sound, and can be run.
-use Rattle.std.proofs.Common.{◌≡◌, ◌≢◌, ◌≤◌, ◌-◌, ◌^◌, ◌==◌, ℕ, suc, Bool, true, false, ◌&&◌, ◌||◌, if◌then◌else◌, nat_le, List, [], ◌∷◌, ◌++◌, length, take, Option, None, Some, is_none, option_map, codes, refl, ap, sym, ◌∙◌, subst, arith, leb-true, le-leb, append_assoc, append-nil, length-append}
+use Rattle.std.proofs.Common.{◌≡◌, ◌≢◌, ◌≤◌, ◌-◌, ◌^◌, ◌==◌, ℕ, suc, Bool, true, false, ◌&&◌, ◌||◌, if◌then◌else◌, nat_le, List, [], ◌∷◌, ◌++◌, length, take, Option, None, Some, is_none, is_some, option_map, codes, zero, Contains, refl, ap, sym, ◌∙◌, subst, arith, leb-true, le-leb, append_assoc, append-nil, length-append}
 use Rattle.std.proofs.lemmas.Bool.{and_from, and_parts, eq-eqb}
 use Rattle.std.proofs.lemmas.List.{append_cancel_right}
 use Rattle.std.proofs.lemmas.Slice.Eq.{bytes_eq-Decides}
@@ -13,12 +13,13 @@ use Rattle.ig_record.specs.declared.stage.InfoFile.{InfoFile}
 use Rattle.ig_record.specs.declared.stage.Kind.TheVariants.{Xfer}
 use Rattle.ig_record.specs.declared.stage.Stage.{Stage}
 use Rattle.ig_record.specs.Sound.{before_name, has_come, has_key, has_layers, has_members, has_shape, has_split, has_tasks, is_copy, is_info_of, is_lawful, is_scale, is_side, is_sound, is_word, same_box, same_point, same_voxels, some_split}
+use Rattle.ig_record.specs.Columns.{dirs_by, dirs_of_all, output_dirs, removed_by}
 use Rattle.ig_record.specs.SoundFacts.{HasSides}
 use Rattle.ig_record.specs.Stage.{cells, greatest, hull_voxels, most_tasks, most_voxels, shape_unit, unfit_axis}
 use Rattle.ig_meaning.specs.Refusal.{Refusal, ShapeUnfit, TooManyTasks, TaskTooLarge}
 use Rattle.ig_meaning.specs.Stage.{too_large_task, too_many_tasks, unfit, unfit_shape}
 use Rattle.ig_stage.specs.Drafts.{CanRun, IsDraft}
-use Rattle.ig_stage.proofs.InfoApart.{apart}
+use Rattle.ig_task.specs.OwnInputs.{elsewhere-from}
 
 -- ---- the directory is split at its layer
 or-first : (a b : Bool) → a ≡ true → (a || b) ≡ true
@@ -142,41 +143,26 @@ module _ (s : Stage) (d : IsDraft s) where
         (and_from (geometry_fits s.source.geometry) (has_layers s && (has_shape s && has_tasks s)) d.source_fits
         (and_from (has_layers s) (has_shape s && has_tasks s) layers-hold (and_from (has_shape s) (has_tasks s) shape-holds tasks-hold)))
 
--- ---- and is a copy that is written elsewhere
-word-short : (text : List ℕ) → is_word text ≡ true → length text ≤ 100
-word-short text word = leb-true (length text) 100 (and_parts (is_path text) (nat_le (length text) 100) word).1
-
-dir-short : (dir layer key : List ℕ) → dir ≡ joined layer key → is_word layer ≡ true → is_word key ≡ true → length dir ≤ 201
-dir-short dir layer key is layer_word key_word =
-    subst (λ d. length d ≤ 201) (sym is) (omega (arith, length-append layer (47 ∷ key), word-short layer layer_word, word-short key key_word))
-
+-- ---- and is written elsewhere
 -- scales with one key in two layers have two directories
 dirs-apart : (from to key : List ℕ) → from ≢ to → joined from key ≢ joined to key
 dirs-apart from to key differ e = differ (append_cancel_right from to (47 ∷ key) e)
 
+the_one : (x y : List ℕ) → Contains (y ∷ []) x → y ≡ x
+the_one x y (zero, below, is) = is
+the_one x y (suc k, below, is) = absurd (omega (arith, below))
+
+outputs_are : (s : Stage) (d : IsDraft s) → output_dirs s ≡ d.dest.dir ∷ []
+outputs_are s d = ap (λ kind. dirs_by kind s) d.kind ∙ ap dirs_of_all d.dests
+
 pub can_run : (s : Stage) → IsDraft s → unfit s ≡ None → CanRun s
 can_run s d fits = record {
   sound = sound s d fits;
-  dest = d.dest;
+  makes = ap (λ kind. is_some (removed_by kind s)) d.kind;
   info = d.info;
-  copy = record {
-    kind = d.kind;
-    dests = d.dests;
-    has_info = d.has_info;
-    source_fits = d.source_fits;
-    dest_fits = d.dest_fits;
-    offset = d.offset;
-    size = d.size;
-    width = d.width;
-    source_short = dir-short s.source.dir d.from d.key d.source_dir d.from_word d.key_word;
-    dest_short = dir-short d.dest.dir d.to d.key d.dest_dir d.to_word d.key_word;
-    shape = (d.sides.x, d.sides.y, d.sides.z);
-    fit = fits;
-  };
-  elsewhere = record {
-    apart = λ same. dirs-apart d.from d.to d.key d.apart (sym d.source_dir ∙ same ∙ d.dest_dir);
-    info_apart = λ b box same. apart s.source.dir d.to b box (sym d.info_at ∙ same);
-  };
+  has_info = d.has_info;
+  elsewhere = elsewhere-from s (sound s d fits) (λ among.
+      dirs-apart d.from d.to d.key d.apart (sym d.source_dir ∙ sym (the_one s.source.dir d.dest.dir (subst (λ dirs. Contains dirs s.source.dir) (outputs_are s d) among)) ∙ d.dest_dir));
 }
 
 -- ---- the sides that its shape is to be a multiple of

@@ -9,7 +9,7 @@ use Rattle.ig_defs.specs.QueueNames.{stage_file, stage_fits}
 use Rattle.ig_defs.specs.QueueNameLaws.{stage_file-same}
 use Rattle.ig_layer.specs.Faults.{first_of, or_else}
 use Rattle.ig_meaning.specs.QueueMaking.{beyond, record_count, stage_named}
-use Rattle.ig_task.specs.Lists.{first_of-from}
+use Rattle.ig_meaning.specs.Lists.{first_of-from}
 
 -- ---- one name
 

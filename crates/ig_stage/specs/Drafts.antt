@@ -1,5 +1,5 @@
 -- A planned copy, and what a run of it stands on.
-use Rattle.std.specs.Prelude.{◌≡◌, ◌≢◌, ℕ, true, List, [], ◌∷◌, None, Some}
+use Rattle.std.specs.Prelude.{◌≡◌, ◌≢◌, ℕ, true, false, List, [], ◌∷◌, None, Some, is_some}
 use Rattle.std.specs.Str.{is_utf8}
 use Rattle.ig_space.specs.declared.place.Place.{Place}
 use Rattle.ig_space.specs.Geometry.{geometry_fits}
@@ -7,9 +7,10 @@ use Rattle.ig_space.specs.Path.{joined}
 use Rattle.ig_record.specs.declared.stage.InfoFile.{InfoFile}
 use Rattle.ig_record.specs.declared.stage.Kind.TheVariants.{Xfer}
 use Rattle.ig_record.specs.declared.stage.Stage.{Stage}
+use Rattle.ig_record.specs.Columns.{removed_dir}
 use Rattle.ig_record.specs.Sound.{is_sound, is_word}
 use Rattle.ig_record.specs.SoundFacts.{HasSides, IsSmall}
-use Rattle.ig_meaning.specs.Copies.{IsCopy, IsElsewhere}
+use Rattle.ig_meaning.specs.Sequential.{IsElsewhere}
 use Rattle.ig_meaning.specs.Plan.{info_path}
 
 -- The same voxels of a scale, with the same key in another layer, and the info of that layer. Whether its shape fits is not
@@ -40,10 +41,10 @@ pub record IsDraft (s : Stage) : Type 0 where
   pub key_word : is_word key ≡ true
   pub apart : from ≢ to
 
--- A copy that is sound, and written elsewhere.
+-- A stage that makes files, with their info, and none of its own inputs.
 pub record CanRun (s : Stage) : Type 0 where
   pub sound : is_sound s ≡ true
-  pub dest : Place
+  pub makes : is_some (removed_dir s) ≡ false
   pub info : InfoFile
-  pub copy : IsCopy s dest info
-  pub elsewhere : IsElsewhere s dest info
+  pub has_info : s.info ≡ Some info
+  pub elsewhere : IsElsewhere s

@@ -1,5 +1,5 @@
 -- What the making of a stage in a queue did: this project's own.
-use Rattle.std.specs.Prelude.{◌≡◌, ◌<◌, ◌^◌, ℕ, Bool, true, List, Option, None, Some, Result, Ok, Err, length}
+use Rattle.std.specs.Prelude.{◌≡◌, ◌<◌, ◌^◌, ℕ, Bool, true, false, is_some, List, Option, None, Some, Result, Ok, Err, length}
 use Rattle.std.specs.List.{All}
 use Rattle.ig_defs.specs.declared.step.Act.{Act}
 use Rattle.ig_defs.specs.Files.{Files}
@@ -14,9 +14,9 @@ use Rattle.ig_meaning.specs.QueueMaking.{making_of_enqueue}
 use Rattle.ig_meaning.specs.QueueWords.{is_apart}
 use Rattle.ig_meaning.specs.Taken.{taken_by}
 use Rattle.ig_meaning.specs.Words as meaning
+use Rattle.ig_record.specs.Columns.{removed_dir}
 use Rattle.ig_record.specs.Sound.{is_sound}
 use Rattle.ig_record.specs.Stage.{task_count}
-use Rattle.ig_record.specs.declared.stage.Kind.TheVariants.{Xfer}
 use Rattle.ig_record.specs.declared.stage.Stage.{Stage}
 use Rattle.ig_rule.specs.QueueFiles.{queue_of}
 use Rattle.ig_rule.specs.Room.{IsOutsideQueue}
@@ -103,13 +103,13 @@ pub record AreLayersApart (q : List ℕ) (request : meaning.Request) : Type 0 wh
   pub source : is_apart q request.source ≡ true
   pub dest : is_apart q request.dest ≡ true
 
--- The record of the copy may be put after those of these stages.
+-- The record of a stage that makes files may be put after those of these stages.
 pub record CanRecord (q : List ℕ) (stages : List Stage) (s : Stage) (files : Files) : Type 0 where
   pub free : IsFree q stages s files
   pub sealed : (n : ℕ) → n < length stages → Sealed (queue_of q files) n
   pub all_sound : All (λ t. is_sound t ≡ true) stages
   pub sound : is_sound s ≡ true
-  pub copies : s.kind ≡ Xfer
+  pub makes : is_some (removed_dir s) ≡ false
   pub not_taken : taken_by stages s ≡ None
   pub outside : IsOutsideQueue q (facts_of (length stages) s)
   pub few : length stages < 10 ^ 4

@@ -1,5 +1,5 @@
 -- What the steps of a run tell.
-use Rattle.std.specs.Prelude.{◌≡◌, ◌<◌, ℕ, ◌-◌, List, [], ◌∷◌, ◌++◌, length, take, Option, None, Some, Result, Ok, Err}
+use Rattle.std.specs.Prelude.{◌≡◌, ◌<◌, ℕ, ◌-◌, List, [], ◌∷◌, ◌++◌, length, take, map, Option, None, Some, Result, Ok, Err}
 use Rattle.ig_defs.specs.declared.step.Act.{Act}
 use Rattle.ig_defs.specs.declared.step.Act.TheVariants as act
 use Rattle.ig_defs.specs.Files.{file_at}
@@ -10,12 +10,16 @@ use Rattle.ig_meaning.specs.Refusal as refusal
 use Rattle.ig_record.specs.declared.stage.Stage.{Stage}
 use Rattle.ig_record.specs.Columns.{inputs_of}
 use Rattle.ig_record.specs.Stage.{task_count}
-use Rattle.ig_meaning.specs.Stage.{flattened, info_files, run_tasks, task_files, task_refusal}
+use Rattle.ig_meaning.specs.JobLaws.{ran_first}
+use Rattle.ig_meaning.specs.Jobs.{files_put, info_files, with_info}
+use Rattle.ig_meaning.specs.Task.{task_outputs, task_refusal}
+use Rattle.ig_meaning.specs.Wants.{flattened}
 use Rattle.ig_meaning.specs.Ending.{Ending, Finished, Refuses, StoreFailed, NoMemory, HasRun}
 use Rattle.ig_meaning.specs.Fault.{Find, fault_of_tasks, finds_of}
 use Rattle.ig_cutout.specs.declared.types.Input.{Input}
 use Rattle.ig_cutout.specs.declared.types.Output.{Output}
 use Rattle.ig_cutout.specs.Inputs.{HoldsAll, cause_of}
+use Rattle.ig_cutout.specs.Outputs.{output_of}
 use Rattle.ig_task.specs.declared.error.RunError.{RunError}
 use Rattle.ig_task.specs.declared.error.RunError.TheVariants.{Missing, Malformed, TooManyParts, Memory}
 use Rattle.ig_stage.specs.declared.error.LocalError.{LocalError}
@@ -53,15 +57,6 @@ reads_all (path ∷ paths) = act.Read path ∷ reads_all paths
 abbrev pub puts_all : List File → List Act
 puts_all [] = []
 puts_all (file ∷ files) = act.Put file.path file.bytes ∷ puts_all files
-
--- the files that outputs put
-abbrev pub file_put : List ℕ → Option (List ℕ) → List File
-file_put path None = []
-file_put path (Some text) = record { path = path; bytes = text } ∷ []
-
-abbrev pub files_put : List Output → List File
-files_put [] = []
-files_put (output ∷ outputs) = file_put output.path output.text ++ files_put outputs
 
 -- some first ones of the paths were read
 pub record ReadsSome (paths : List (List ℕ)) (old new : Log) : Type 0 where
@@ -124,7 +119,7 @@ PutSoFar outputs n old now = Did old now (puts_all (files_put (take n outputs)))
 -- it does not refuse, all its inputs were read, and some first ones of its files were put
 pub record PutsOfTask (s : Stage) (k : ℕ) (old new : Log) (outputs : List File) (number : ℕ) : Type 0 where
   pub fine : task_refusal s k (file_at (files_of old)) ≡ None
-  pub made : task_files s k (file_at (files_of old)) ≡ Some outputs
+  pub made : task_outputs s k (file_at (files_of old)) ≡ Some (map output_of outputs)
   pub did : Did old new (reads_all (inputs_of s k) ++ puts_all (take number outputs))
 
 pub record TaskDone (s : Stage) (k : ℕ) (old new : Log) : Type 0 where
@@ -156,8 +151,8 @@ pub record RunsSome (s : Stage) (old new : Log) (n : ℕ) : Type 0 where
   pub acts : List Act
   pub did : Did old new acts
   pub files : after_all (files_of old) acts ≡ put_all (files_of old) (puts_of (moments_from (files_of old) acts))
-  pub now : (run_tasks s (put_all (files_of old) (info_files s.info)) n).files ≡ Some (files_of new)
-  pub puts : puts_of (moments_from (files_of old) acts) ≡ info_files s.info ++ (run_tasks s (put_all (files_of old) (info_files s.info)) n).puts
+  pub now : (ran_first s (with_info s.info (files_of old)) n).files ≡ Some (files_of new)
+  pub puts : puts_of (moments_from (files_of old) acts) ≡ info_files s.info ++ files_put (ran_first s (with_info s.info (files_of old)) n).changes
   pub reads : reads_of (moments_from (files_of old) acts) ≡ flattened (listed (inputs_of s) n)
   pub fault : (rest : List Find) → fault_of_tasks s (task_count s) 0 (finds_of (moments_from (files_of old) acts) ++ rest)
       ≡ fault_of_tasks s (task_count s - n) n rest

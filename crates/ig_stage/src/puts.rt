@@ -8,7 +8,7 @@ ghost use Rattle.ig_rule.specs.Stages.{Named, Sealed, task_id};
 ghost use Rattle.ig_record.specs.Sound.{is_sound};
 ghost use Rattle.ig_record.specs.Stage.{task_count};
 ghost use Rattle.ig_meaning.specs.QueueActs.{name_file, put_of, seal_file};
-ghost use Rattle.ig_meaning.specs.Stage.{info_files};
+ghost use Rattle.ig_meaning.specs.Jobs.{info_files};
 ghost use Rattle.ig_task.specs.Facts.{stage_reader};
 ghost use Rattle.ig_task.specs.Pipeline.{is_allowed};
 ghost use Rattle.ig_stage.specs.Open.{AllNamed, Does, DoesSome, HasInfo, Makes, StaysOpen};

@@ -96,6 +96,10 @@ laws-by : (n : ℕ) (s : Stage) → IsSound s → IsSoundKind s → StageLaws (f
 laws-by n s h (is_xfer is none c) = copy-laws n s h is c
 laws-by n s h (is_remove is none r) = removal-laws n s h is r
 
+-- What a sound stage keeps.
+pub stage-laws : (n : ℕ) (s : Stage) → is_sound s ≡ true → StageLaws (facts_of n s)
+stage-laws n s sound = laws-by n s (IsSound-from s sound) (sound-kind s sound)
+
 -- ---- of records
 -- the facts are those of a sound stage
 record IsRead (n : ℕ) (t : Facts) : Type 0 where
@@ -120,6 +124,6 @@ pub kinds : KindLaws stage_reader
 kinds = record {
   stage = λ n text t e.
       let r = reader-reads n text t e in
-      subst StageLaws r.is (laws-by n r.stage (IsSound-from r.stage r.sound) (sound-kind r.stage r.sound));
+      subst StageLaws r.is (stage-laws n r.stage r.sound);
   pass = λ n m text other s t key read_s read_t needs serves. absurd (needs-none n s key (reader-reads n text s read_s) needs);
 }

@@ -12,3 +12,5 @@ pub mod NewRecords
 pub mod OwnWants
 pub mod MadeOutputs
 pub mod Runs
+pub mod OwnInputs
+pub mod PutOutputs

@@ -118,14 +118,11 @@ all_sound : (stages : List Stage) → All (λ t. is_sound t ≡ true) stages →
 all_sound stages all n t is = subst (λ u. is_sound u ≡ true) (get_or_from_slice_get stages n t t is) (all n t (slice_get_within stages n t is))
 
 -- a copy removes nothing
-copy_keeps : (s : Stage) → s.kind ≡ Xfer → is_some (removed_dir s) ≡ false
-copy_keeps s copies = ap (λ kind. is_some (removed_by kind s)) copies
-
 -- A new copy has room, where its output directories hold no file and its info is not there.
-pub room-from : (q : List ℕ) (stages : List Stage) (s : Stage) (files : Files) (m : ℕ) → KnowsStages q stages files → All (λ t. is_sound t ≡ true) stages → is_sound s ≡ true → s.kind ≡ Xfer
+pub room-from : (q : List ℕ) (stages : List Stage) (s : Stage) (files : Files) (m : ℕ) → KnowsStages q stages files → All (λ t. is_sound t ≡ true) stages → is_sound s ≡ true → is_some (removed_dir s) ≡ false
     → taken_by stages s ≡ None → IsOutsideQueue q (facts_of m s) → ((path : List ℕ) → LiesInOne (output_dirs s) path → file_at files path ≡ None)
     → ((info : InfoFile) → s.info ≡ Some info → file_at files info.path ≡ None) → Room (stages_in stage_reader q files) (queue_of q files) q files m (facts_of m s)
-room-from q stages s files m k all sound copies free outside empty fresh = record {
+room-from q stages s files m k all sound makes free outside empty fresh = record {
   empty = empty;
   fresh_info = λ needs file e.
       let i = info_of s.info file e in
@@ -138,5 +135,5 @@ room-from q stages s files m k all sound copies free outside empty fresh = recor
       subst (IsNotRemovedBy (facts_of m s)) u.facts (spared-earlier s u.stage m r (not_taken stages s free r u.stage u.is) (ap (λ (f : Facts). f.removes) u.facts ∙ removes));
   outside = outside;
   pass = λ key needs. absurd (cc);
-  unused = λ removes. absurd (true≢false (sym removes ∙ copy_keeps s copies));
+  unused = λ removes. absurd (true≢false (sym removes ∙ makes));
 }

@@ -4,7 +4,7 @@ use Rattle.ig_space.specs.Chunks.{listed}
 use Rattle.ig_record.specs.Stage.{task_count}
 use Rattle.ig_meaning.specs.Making.{New}
 use Rattle.ig_meaning.specs.QueueActs.{name_file, put_of, record_file, seal_file}
-use Rattle.ig_meaning.specs.Stage.{info_files}
+use Rattle.ig_meaning.specs.Jobs.{info_files}
 use Rattle.ig_stage.proofs.Makers.{new_made, puts_fail}
 use Rattle.ig_stage.proofs.NamesPut.{does_as}
 use Rattle.ig_stage.proofs.OpenLogs.{does_then}

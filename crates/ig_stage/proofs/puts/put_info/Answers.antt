@@ -1,6 +1,6 @@
 use Rattle.std.proofs.Common.{IfOk, map, refl, subst, sym}
 use Rattle.ig_meaning.specs.QueueActs.{put_of}
-use Rattle.ig_meaning.specs.Stage.{info_files}
+use Rattle.ig_meaning.specs.Jobs.{info_files}
 use Rattle.ig_task.specs.Pipeline.{is_allowed}
 use Rattle.ig_stage.specs.Open.{Does, HasInfo}
 use Rattle.ig_stage.proofs.OpenKept.{info_keeps, info_put}

@@ -11,7 +11,7 @@ returns-in_err-put_info-clause-ran g c = λ tells.
     let can = c.requires.can_run in
     let p = err_from_is_err_and c.from_residual.result c.from_residual.ensures.1 in
     passed_on s _ _ c.from_residual.result c.in_err-put_info.field-0.0 _ p.1 p.2
-    (info_failed s can.dest can.info can.copy _ _ (ending_of_local c.in_err-put_info.field-0.0) (c.in_err-put_info.ensures.did tells can.info can.copy.has_info))
+    (info_failed s can _ _ (ending_of_local c.in_err-put_info.field-0.0) (c.in_err-put_info.ensures.did tells can.info can.has_info))
 
 pub returns-in_err-run_task-clause-ran : goal.returns-in_err-run_task-clause-ran
 returns-in_err-run_task-clause-ran g c = λ tells.
@@ -19,7 +19,7 @@ returns-in_err-run_task-clause-ran g c = λ tells.
     let can = c.requires.can_run in
     let p = err_from_is_err_and c.from_residual-in_err-run_task.result c.from_residual-in_err-run_task.ensures.1 in
     passed_on s _ _ c.from_residual-in_err-run_task.result c.in_err-run_task.field-0.0 _ p.1 p.2
-    (task_failed s can.dest can.info can.copy _ _ c.loop-task.task (subst (λ m. c.loop-task.task < m) c.tasks-tasks.ensures.value c.loop-task-test.true) (c.loop-task.invariant.2 tells) _ (ending_of_local c.in_err-run_task.field-0.0)
+    (task_failed s can _ _ c.loop-task.task (subst (λ m. c.loop-task.task < m) c.tasks-tasks.ensures.value c.loop-task-test.true) (c.loop-task.invariant.2 tells) _ (ending_of_local c.in_err-run_task.field-0.0)
     (c.in_err-run_task.ensures.ran tells))
 
 pub loop-task-preserved : goal.loop-task-preserved
@@ -27,7 +27,7 @@ loop-task-preserved g c =
     let s = c.args.stage.now in (
       c.run_task.ensures.rule,
       omega (arith, c.loop-task.invariant.1, c.in_ok-run_task.ensures.cause.later),
-      λ tells. run_goes_on s _ _ _ c.loop-task.task (subst (λ m. c.loop-task.task < m) c.tasks-tasks.ensures.value c.loop-task-test.true) (c.loop-task.invariant.2 tells) c.requires.can_run.copy.kind (c.in_ok-run_task.ensures.ran tells),
+      λ tells. run_goes_on s _ _ _ c.loop-task.task (subst (λ m. c.loop-task.task < m) c.tasks-tasks.ensures.value c.loop-task-test.true) (c.loop-task.invariant.2 tells) (c.in_ok-run_task.ensures.ran tells),
     )
 
 pub returns-clause-ran : goal.returns-clause-ran
@@ -35,4 +35,4 @@ returns-clause-ran g c = λ tells.
     let s = c.args.stage.now in
     let can = c.requires.can_run in
     let same : c.loop-task.task ≡ c.tasks-tasks.result = omega (arith, c.loop-task-test.false, c.loop-task.auto.task-end) in
-    all_done s can.dest can.info can.copy _ can.elsewhere _ (subst (RunsSome s _ _) (same ∙ c.tasks-tasks.ensures.value) (c.loop-task.invariant.2 tells))
+    all_done s can _ _ (subst (RunsSome s _ _) (same ∙ c.tasks-tasks.ensures.value) (c.loop-task.invariant.2 tells))
