@@ -1,18 +1,16 @@
 -- An info with a scale added is one.
-use Rattle.std.proofs.Common.{◌≡◌, ◌≤◌, ◌<◌, ◌+◌, ℕ, suc, max, true, false, not, List, [], ◌∷◌, ◌++◌, length, Option, Some, None, is_some, option_and_then, unwrap_or, Result, Ok, Err, codes, refl, ap, sym, subst, ◌∙◌, arith}
-use Rattle.std.proofs.lemmas.Bool.{and_parts, and_from}
-use Rattle.serde_json.specs.Data.{Data, null, boolean, number, string, array, object, Items, no_items, Members, put, depth, items_depth, members_depth}
+use Rattle.std.proofs.Common.{◌≡◌, ◌≤◌, ◌<◌, ◌+◌, true, false, List, [], ◌∷◌, ◌++◌, length, Option, Some, option_and_then, unwrap_or, Result, Ok, Err, codes, refl, ap, sym, subst, ◌∙◌, arith}
+use Rattle.serde_json.specs.Data.{Data, array, object, Items, no_items, Members, put, depth}
 use Rattle.serde_json.specs.Events.{items_len}
-use Rattle.serde_json.specs.Find.{get, as_array, as_object}
+use Rattle.serde_json.specs.Find.{get, as_array}
 use Rattle.serde_json.specs.Read.{max_depth}
-use Rattle.serde_json.specs.Written.{has_float}
 use Rattle.serde_json.proofs.Views.{get_member-put}
 use Rattle.ig_space.specs.declared.geometry.Width.{Width}
 use Rattle.ig_info.specs.declared.error.InfoError.{InfoError}
 use Rattle.ig_info.specs.declared.scale.Scale.{Scale}
 use Rattle.ig_info.specs.Answer.{◌>>=◌}
-use Rattle.ig_info.specs.Added.{HasWidth, with_last, items_at, members_with}
-use Rattle.ig_info.specs.Ascending.{ascends, items_ascend, members_ascend}
+use Rattle.ig_info.specs.Added.{HasWidth, with_last, members_with}
+use Rattle.ig_info.specs.Ascending.{ascends}
 use Rattle.ig_info.specs.Dest.{scale_data}
 use Rattle.ig_info.specs.Info.{InfoData}
 use Rattle.ig_info.specs.Reading.{IsInfo, info_of}

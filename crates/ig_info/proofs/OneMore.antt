@@ -1,13 +1,12 @@
 -- The members of an info with a scale added are read as that info.
-use Rattle.std.proofs.Common.{◌≡◌, ◌≤◌, ◌<◌, ℕ, suc, ◌&&◌, nat_le, Bool, true, false, not, true≢false, List, [], ◌∷◌, ◌++◌, length, slice_get, Option, Some, None, is_some, option_and_then, Result, Ok, Err, codes, bytes_eq, refl, ap, sym, subst, ◌∙◌, arith, lit≤}
-use Rattle.std.proofs.lemmas.Bool.{and_parts, and_from, leb-true, le-leb}
+use Rattle.std.proofs.Common.{◌≡◌, ◌≤◌, ◌<◌, ℕ, Bool, true, false, not, true≢false, List, [], ◌∷◌, ◌++◌, Some, is_some, option_and_then, Result, Ok, codes, bytes_eq, refl, ap, sym, ◌∙◌, arith, lit≤}
+use Rattle.std.proofs.lemmas.Bool.{and_parts, and_from, le-leb}
 use Rattle.std.proofs.lemmas.Slice.Eq.{bytes_eq-Decides}
-use Rattle.serde_json.specs.Data.{Data, null, boolean, number, string, array, object, Items, no_items, item, Members, put, depth, items_depth, members_depth}
+use Rattle.serde_json.specs.Data.{Data, null, boolean, number, string, array, object, Items, no_items, item, Members, put, depth}
 use Rattle.serde_json.specs.Events.{items_len}
-use Rattle.serde_json.specs.Find.{get, get_member, as_array, as_object}
-use Rattle.serde_json.specs.Read.{max_depth}
-use Rattle.serde_json.specs.Written.{has_float, members_have_float}
-use Rattle.serde_json.proofs.Views.{get_member-put, get_member-put_other}
+use Rattle.serde_json.specs.Find.{get, as_array, as_object}
+use Rattle.serde_json.specs.Written.{has_float}
+use Rattle.serde_json.proofs.Views.{get_member-put_other}
 use Rattle.ig_space.specs.declared.geometry.Width.{Width}
 use Rattle.ig_space.specs.declared.geometry.Encoding.{Encoding}
 use Rattle.ig_space.specs.declared.geometry.Encoding.TheVariants.{Raw, Cseg}
@@ -15,20 +14,14 @@ use Rattle.ig_space.specs.Path.{within}
 use Rattle.ig_info.specs.declared.error.InfoError.{InfoError}
 use Rattle.ig_info.specs.declared.error.InfoError.TheVariants.{Member, Unsupported}
 use Rattle.ig_info.specs.declared.scale.Scale.{Scale}
-use Rattle.ig_info.specs.Answer.{◌>>=◌, or_error, only_if}
-use Rattle.ig_info.specs.Added.{HasWidth, with_last, items_at, members_with}
-use Rattle.ig_info.specs.Ascending.{ascends, items_ascend, members_ascend}
-use Rattle.ig_info.specs.Dest.{scale_of_encoding, scale_data}
-use Rattle.ig_info.specs.Info.{InfoData}
-use Rattle.ig_info.specs.Reading.{IsInfo, info_of}
-use Rattle.ig_info.specs.Scale.{scale_fits}
-use Rattle.ig_info.specs.Scales.{has_key, scale_of, scales_after}
-use Rattle.ig_info.specs.Whole.{all_objects, is_scale_list, scale_list, scales_in, text_member, segmentation_only, width_of, one_channel, kind_of, head_of, items_of_scales, scales_of}
-use Rattle.ig_info.proofs.Limits.{bind_ok, and_then-some, or_error-ok, if_some, items_of_scales-few, head_of-whole, scales_after-length, scales_of-IsInfo}
-use Rattle.ig_info.proofs.Ascends.{members_ascend-put}
-use Rattle.ig_info.proofs.Longer.{items_len-with_last, all_objects-with_last, items_ascend-with_last, items_depth-with_last, items_have_float-with_last, members_have_float-put, members_depth-put, get_member-ascends, get_member-depth, get_member-whole}
-use Rattle.ig_info.proofs.ReadBack.{later_read_back}
-use Rattle.ig_info.proofs.Widths.{scales_after-width, width_at}
+use Rattle.ig_info.specs.Answer.{◌>>=◌, only_if}
+use Rattle.ig_info.specs.Added.{with_last}
+use Rattle.ig_info.specs.Ascending.{ascends}
+use Rattle.ig_info.specs.Dest.{scale_of_encoding}
+use Rattle.ig_info.specs.Scales.{scale_of, scales_after}
+use Rattle.ig_info.specs.Whole.{all_objects, is_scale_list, scale_list, scales_in, text_member, segmentation_only, width_of, one_channel, kind_of, head_of, items_of_scales}
+use Rattle.ig_info.proofs.Limits.{bind_ok, and_then-some, or_error-ok, if_some}
+use Rattle.ig_info.proofs.Longer.{items_len-with_last, all_objects-with_last}
 
 -- ---- the scale's own members
 

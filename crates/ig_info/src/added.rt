@@ -1,10 +1,9 @@
-ghost use Rattle.std.specs.Prelude.{◌≡◌, ◌<◌, [], ◌∷◌, ◌++◌, List as list, length, not, true, false, Ok, codes, IfOk, OnOk, Some, ℕ, option_and_then, unwrap_or};
+ghost use Rattle.std.specs.Prelude.{◌≡◌, ◌<◌, [], ◌∷◌, ◌++◌, List as list, length, true, false, Ok, codes, IfOk, OnOk, Some, ℕ, unwrap_or};
 ghost use Rattle.serde_json.specs.Data.{array, no_items};
 ghost use Rattle.serde_json.specs.Find.{as_array};
 ghost use Rattle.serde_json.specs.View.{view as data_of, items_view};
 ghost use Rattle.ig_info.specs.Answer.{Gives};
 ghost use Rattle.ig_info.specs.Added.{HasWidth, with_last, items_at, with_member, members_with, added as added_to};
-ghost use Rattle.ig_info.specs.Dest.{scale_data};
 ghost use Rattle.ig_info.specs.Reading.{IsInfo, info_in};
 ghost use Rattle.ig_info.specs.Scale.{scale_fits};
 ghost use Rattle.ig_info.specs.Scales.{has_key};
