@@ -18,8 +18,8 @@ items_view-with_last : (vs : List Value) (v : Value) → items_view (vs ++ v ∷
 items_view-with_last [] v = refl
 items_view-with_last (x ∷ vs) v = ap (item (view x)) (items_view-with_last vs v)
 
-pub view-longer : (all : Vec Value Global) (vs : List Value) (v : Value) (ds : Items) → all.items ≡ vs ++ v ∷ [] → items_view vs ≡ ds → view (Array all) ≡ array (with_last (view v) ds)
-view-longer all vs v ds grew are =
+pub view_longer : (all : Vec Value Global) (vs : List Value) (v : Value) (ds : Items) → all.items ≡ vs ++ v ∷ [] → items_view vs ≡ ds → view (Array all) ≡ array (with_last (view v) ds)
+view_longer all vs v ds grew are =
     view-Array all ∙ ap array (ap items_view grew ∙ items_view-with_last vs v ∙ ap (with_last (view v)) are)
 
 -- ---- items and one more

@@ -29,6 +29,7 @@ fn items_of(alloc: Global, value: Value) -> Vec<Value>
 }
 
 /// The items of this value, where it is a list, and one more.
+#[tactic(auto, using(crate::proofs::Longer::view_longer))]
 fn one_more(alloc: Global, value: Value, last: Value) -> Result<Value, AllocError>
     ensures { IfOk result (λ v. data_of v ≡ array (with_last (data_of last) (unwrap_or (as_array (data_of value)) no_items))) }
 {
