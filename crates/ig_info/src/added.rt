@@ -85,7 +85,7 @@ fn one_scale_more(alloc: Global, info: &Info, scale: &Scale) -> Result<Info, All
     Ok(Info::of_members(members, scales))
 }
 
-/// The info with this scale added last, which has the width of the others. `Unsupported` names `key` where a scale has
+/// The info with this scale, of the same width as the others, added last. `Unsupported` names `key` where a scale has
 /// that key, else `scales` where there are 100 already, and else `chunk_sizes` where the scale does not fit.
 #[tactic(auto, unfolding(crate::specs::Added::added))]
 pub fn with_scale(alloc: Global, info: &Info, scale: &Scale) -> Result<Info, InfoError>
