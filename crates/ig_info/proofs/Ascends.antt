@@ -34,7 +34,7 @@ put_case Less k m d e ms rest is own all first more = and_from _ _ own (and_from
 put_case Equal k m d e ms rest is own all first more = and_from _ _ own ((and_parts (ascends e) _ all).1)
 put_case Greater k m d e ms rest is own all first more = and_from _ _ ((and_parts (ascends e) _ all).0) (and_from _ _ (first refl) more)
 
-members_ascend-put : (k : List ℕ) (d : Data) (ms : Members) → ascends d ≡ true → members_ascend ms ≡ true → members_ascend (put k d ms) ≡ true
+pub members_ascend-put : (k : List ℕ) (d : Data) (ms : Members) → ascends d ≡ true → members_ascend ms ≡ true → members_ascend (put k d ms) ≡ true
 members_ascend-put k d no_members own all = and_from _ _ own refl
 members_ascend-put k d (member m e ms) own all =
     let parts = and_parts (comes_first m ms) (members_ascend ms) ((and_parts (ascends e) _ all).1) in

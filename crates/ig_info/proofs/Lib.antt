@@ -4,3 +4,7 @@ pub mod Ascends
 pub mod Limits
 pub mod ReadBack
 pub mod NewLayer
+pub mod Longer
+pub mod Widths
+pub mod OneMore
+pub mod AddedScale

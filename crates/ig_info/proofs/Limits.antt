@@ -35,15 +35,15 @@ only_if-ok : (b : Bool) (r : InfoError) (u : Unit {0}) → only_if b r ≡ Ok u 
 only_if-ok true r u e = refl
 only_if-ok false r u e = absurd cc
 
-or_error-ok : {A : Type 0} (r : InfoError) (o : Option A) (x : A) → or_error r o ≡ Ok x → o ≡ Some x
+pub or_error-ok : {A : Type 0} (r : InfoError) (o : Option A) (x : A) → or_error r o ≡ Ok x → o ≡ Some x
 or_error-ok r (Some z) x e = cc
 or_error-ok r None x e = absurd cc
 
-and_then-some : {A B : Type 0} (o : Option A) (f : A → Option B) (y : B) → option_and_then f o ≡ Some y → (x : A) × (o ≡ Some x) × (f x ≡ Some y)
+pub and_then-some : {A B : Type 0} (o : Option A) (f : A → Option B) (y : B) → option_and_then f o ≡ Some y → (x : A) × (o ≡ Some x) × (f x ≡ Some y)
 and_then-some (Some x) f y e = (x, refl, e)
 and_then-some None f y e = absurd cc
 
-if_some : {A : Type 0} (b : Bool) (x y : A) → cond b (Some x) None ≡ Some y → (b ≡ true) × (x ≡ y)
+pub if_some : {A : Type 0} (b : Bool) (x y : A) → cond b (Some x) None ≡ Some y → (b ≡ true) × (x ≡ y)
 if_some true x y e = (refl, cc)
 if_some false x y e = absurd cc
 
@@ -96,10 +96,10 @@ key_of-short earlier d key e =
     let t = if_some (is_path s.0 && nat_le (length s.0) 100) s.0 key s.2 in
     subst (λ k. (is_path k && nat_le (length k) 100) ≡ true) t.1 t.0
 
-abbrev made : Width → Point → Point → Point → Encoding → Geometry
+abbrev pub made : Width → Point → Point → Point → Encoding → Geometry
 made width size offset chunk encoding = record { offset = offset; size = size; chunk = chunk; width = width; encoding = encoding }
 
-tested : (test : Bool) (r : InfoError) (x g : Geometry) → (only_if test r >>= λ _. Ok x) ≡ Ok g → (test ≡ true) × (x ≡ g)
+pub tested : (test : Bool) (r : InfoError) (x g : Geometry) → (only_if test r >>= λ _. Ok x) ≡ Ok g → (test ≡ true) × (x ≡ g)
 tested true r x g e = (refl, cc)
 tested false r x g e = absurd cc
 
@@ -125,10 +125,10 @@ scale_within key resolution geometry s e k r g =
     let parts = and_parts (is_path key) (nat_le (length key) 100) k in
     subst (λ q. scale_fits q ≡ true) e (and_from _ _ parts.0 (and_from _ _ parts.1 (and_from _ _ r g)))
 
-abbrev scale_made : List ℕ → Point → Geometry → Scale
+abbrev pub scale_made : List ℕ → Point → Geometry → Scale
 scale_made key resolution geometry = record { key = key; resolution = resolution; geometry = geometry }
 
-last_part : (m : Result Geometry InfoError) (k : List ℕ) (r : Point) (s : Scale) → (m >>= λ g. Ok (scale_made k r g)) ≡ Ok s → (g : Geometry) × (m ≡ Ok g) × (scale_made k r g ≡ s)
+pub last_part : (m : Result Geometry InfoError) (k : List ℕ) (r : Point) (s : Scale) → (m >>= λ g. Ok (scale_made k r g)) ≡ Ok s → (g : Geometry) × (m ≡ Ok g) × (scale_made k r g ≡ s)
 last_part (Ok g) k r s e = (g, refl, cc)
 last_part (Err x) k r s e = absurd cc
 
@@ -161,7 +161,7 @@ scales_after-fit width earlier (item d ds) all e h =
     let s = bind_ok (scale_of width earlier d) (λ scale. scales_after width (earlier ++ scale ∷ []) ds) all e in
     scales_after-fit width (earlier ++ s.0 ∷ []) ds all s.2 (list_all-append scale_fits earlier (s.0 ∷ []) ∙ and_from _ _ h (and_from _ _ (scale_of-fits width earlier d s.0 s.1) refl))
 
-scales_after-length : (width : Width) (earlier : List Scale) (ds : Items) (all : List Scale) → scales_after width earlier ds ≡ Ok all → length all ≡ length earlier + items_len ds
+pub scales_after-length : (width : Width) (earlier : List Scale) (ds : Items) (all : List Scale) → scales_after width earlier ds ≡ Ok all → length all ≡ length earlier + items_len ds
 scales_after-length width earlier no_items all e = let same : earlier ≡ all = cc in omega (arith, ap length same)
 scales_after-length width earlier (item d ds) all e =
     let s = bind_ok (scale_of width earlier d) (λ scale. scales_after width (earlier ++ scale ∷ []) ds) all e in
@@ -173,11 +173,11 @@ both_hold true true r t m width e = refl
 both_hold true false r t m width e = absurd cc
 both_hold false b r t m width e = absurd cc
 
-head_of-whole : (d : Data) (width : Width) → head_of d ≡ Ok width → has_float d ≡ false
+pub head_of-whole : (d : Data) (width : Width) → head_of d ≡ Ok width → has_float d ≡ false
 unfolding head_of
 head_of-whole d width e = not_true _ (both_hold (is_some (as_object d)) (not (has_float d)) (Member (codes "$")) (Unsupported (codes "number")) (kind_of d) width e)
 
-items_of_scales-few : (d : Data) (ds : Items) → items_of_scales d ≡ Ok ds → is_scale_list ds ≡ true
+pub items_of_scales-few : (d : Data) (ds : Items) → items_of_scales d ≡ Ok ds → is_scale_list ds ≡ true
 unfolding items_of_scales
 items_of_scales-few d ds e =
     let s = and_then-some (option_and_then as_array (get (codes "scales") d)) scale_list ds (or_error-ok (Member (codes "scales")) (scales_in d) ds e) in

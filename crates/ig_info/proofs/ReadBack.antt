@@ -1,5 +1,5 @@
 -- The members of a new layer are read as its scale.
-use Rattle.std.proofs.Common.{◌≡◌, ◌≤◌, ℕ, ◌+◌, ◌-◌, ◌*◌, ◌/◌, ◌^◌, ◌&&◌, nat_le, Bool, true, false, List, [], ◌∷◌, length, Some, Ok, codes, refl, sym, ap, subst, arith, lit≤}
+use Rattle.std.proofs.Common.{◌≡◌, ◌≤◌, ℕ, ◌+◌, ◌-◌, ◌*◌, ◌/◌, ◌^◌, ◌&&◌, nat_le, Bool, true, false, List, [], ◌∷◌, length, Some, Ok, codes, refl, arith, lit≤}
 use Rattle.std.proofs.Math.Nat.{mul-le-mul_left, le_trans, le-div_iff_mul-le}
 use Rattle.std.proofs.lemmas.Bool.{and_parts, and_from, leb-true, le-leb}
 use Rattle.serde_json.specs.Data.{Data, object, item, no_items, Members}
@@ -16,10 +16,10 @@ use Rattle.ig_space.specs.Geometry.{largest_place, largest_chunk, largest_padded
 use Rattle.ig_info.specs.declared.scale.Scale.{Scale}
 use Rattle.ig_info.specs.Parts.{side, triple, is_whole_triple}
 use Rattle.ig_info.specs.Scale.{scale_fits}
-use Rattle.ig_info.specs.Scales.{largest_side, largest_block, is_absent_or_null, triple_member, key_of, offset_of, chunk_of, blocks_of, encoding_of, geometry_of, scale_of}
+use Rattle.ig_info.specs.Scales.{largest_side, largest_block, is_absent_or_null, triple_member, has_key, key_of, offset_of, chunk_of, blocks_of, encoding_of, geometry_of, scale_of}
 use Rattle.ig_info.specs.Whole.{text_member, segmentation_only, width_of, one_channel, kind_of, head_of, items_of_scales, scales_of}
 use Rattle.ig_info.specs.Reading.{info_of}
-use Rattle.ig_info.specs.Dest.{point_data, width_word, raw_members, cseg_members, dest_members, dest_data}
+use Rattle.ig_info.specs.Dest.{point_data, width_word, raw_members, cseg_members, scale_data, dest_members, dest_data}
 
 triple-data : (low high : ℕ) (p : Point) → all_within low high p ≡ true → triple low high (point_data p) ≡ Some p
 unfolding triple side
@@ -44,42 +44,43 @@ abbrev members_of : Encoding → List ℕ → Data → Data → Data → Data �
 members_of Raw key c r z o = raw_members key c r z o
 members_of (Cseg block) key c r z o = cseg_members key (point_data block) c r z o
 
-key-dest : (e : Encoding) (key : List ℕ) (c r z o : Data) → is_path key ≡ true → nat_le (length key) 100 ≡ true → key_of [] (members_of e key c r z o) ≡ Ok key
+key-dest : (earlier : List Scale) (e : Encoding) (key : List ℕ) (c r z o : Data) → is_path key ≡ true → nat_le (length key) 100 ≡ true → has_key earlier key ≡ false
+    → key_of earlier (members_of e key c r z o) ≡ Ok key
 unfolding key_of
-key-dest Raw key c r z o p n = rw (p, n) refl
-key-dest (Cseg block) key c r z o p n = rw (p, n) refl
+key-dest earlier Raw key c r z o p n new = rw (p, n, new) refl
+key-dest earlier (Cseg block) key c r z o p n new = rw (p, n, new) refl
 
-size-dest : (e : Encoding) (key : List ℕ) (c r o : Data) (size : Point) (high : ℕ) → all_within 1 high size ≡ true → triple_member 0 (codes "size") 1 high (members_of e key c r (point_data size) o) ≡ Ok size
+size-dest : (n : ℕ) (e : Encoding) (key : List ℕ) (c r o : Data) (size : Point) (high : ℕ) → all_within 1 high size ≡ true → triple_member n (codes "size") 1 high (members_of e key c r (point_data size) o) ≡ Ok size
 unfolding triple_member
-size-dest Raw key c r o size high h = rw (triple-data 1 high size h) refl
-size-dest (Cseg block) key c r o size high h = rw (triple-data 1 high size h) refl
+size-dest n Raw key c r o size high h = rw (triple-data 1 high size h) refl
+size-dest n (Cseg block) key c r o size high h = rw (triple-data 1 high size h) refl
 
-resolution-dest : (e : Encoding) (key : List ℕ) (c z o : Data) (r : Point) (high : ℕ) → all_within 1 high r ≡ true
-    → triple_member 0 (codes "resolution") 1 high (members_of e key c (point_data r) z o) ≡ Ok r
+resolution-dest : (n : ℕ) (e : Encoding) (key : List ℕ) (c z o : Data) (r : Point) (high : ℕ) → all_within 1 high r ≡ true
+    → triple_member n (codes "resolution") 1 high (members_of e key c (point_data r) z o) ≡ Ok r
 unfolding triple_member
-resolution-dest Raw key c z o r high h = rw (triple-data 1 high r h) refl
-resolution-dest (Cseg block) key c z o r high h = rw (triple-data 1 high r h) refl
+resolution-dest n Raw key c z o r high h = rw (triple-data 1 high r h) refl
+resolution-dest n (Cseg block) key c z o r high h = rw (triple-data 1 high r h) refl
 
-offset-dest : (e : Encoding) (key : List ℕ) (c r z : Data) (size o : Point) → all_within 0 largest_place o ≡ true → ends_within o size ≡ true
-    → offset_of 0 size (members_of e key c r z (point_data o)) ≡ Ok o
+offset-dest : (n : ℕ) (e : Encoding) (key : List ℕ) (c r z : Data) (size o : Point) → all_within 0 largest_place o ≡ true → ends_within o size ≡ true
+    → offset_of n size (members_of e key c r z (point_data o)) ≡ Ok o
 unfolding offset_of is_whole_triple
-offset-dest Raw key c r z size o h e = rw (triple-data 0 largest_place o h, e) refl
-offset-dest (Cseg block) key c r z size o h e = rw (triple-data 0 largest_place o h, e) refl
+offset-dest n Raw key c r z size o h e = rw (triple-data 0 largest_place o h, e) refl
+offset-dest n (Cseg block) key c r z size o h e = rw (triple-data 0 largest_place o h, e) refl
 
-chunk-dest : (e : Encoding) (key : List ℕ) (c : Point) (r z o : Data) → all_within 1 largest_side c ≡ true → chunk_of 0 (members_of e key (point_data c) r z o) ≡ Ok c
+chunk-dest : (n : ℕ) (e : Encoding) (key : List ℕ) (c : Point) (r z o : Data) → all_within 1 largest_side c ≡ true → chunk_of n (members_of e key (point_data c) r z o) ≡ Ok c
 unfolding chunk_of
-chunk-dest Raw key c r z o h = rw (triple-data 1 largest_side c h) refl
-chunk-dest (Cseg block) key c r z o h = rw (triple-data 1 largest_side c h) refl
+chunk-dest n Raw key c r z o h = rw (triple-data 1 largest_side c h) refl
+chunk-dest n (Cseg block) key c r z o h = rw (triple-data 1 largest_side c h) refl
 
 -- what the reader asks of compressed labels
 abbrev is_read : Width → Encoding → Bool
 is_read w Raw = true
 is_read w (Cseg block) = is_wide w && all_within 1 largest_block block
 
-encoding-dest : (e : Encoding) (w : Width) (key : List ℕ) (c r z o : Data) → is_read w e ≡ true → encoding_of 0 w (members_of e key c r z o) ≡ Ok e
+encoding-dest : (n : ℕ) (e : Encoding) (w : Width) (key : List ℕ) (c r z o : Data) → is_read w e ≡ true → encoding_of n w (members_of e key c r z o) ≡ Ok e
 unfolding encoding_of blocks_of triple_member
-encoding-dest Raw w key c r z o h = refl
-encoding-dest (Cseg block) w key c r z o h =
+encoding-dest n Raw w key c r z o h = refl
+encoding-dest n (Cseg block) w key c r z o h =
     let p = and_parts (is_wide w) (all_within 1 largest_block block) h in
     rw (p.0, triple-data 1 largest_block block p.1) refl
 
@@ -123,13 +124,13 @@ all_wider low a b p h w =
 abbrev made_geometry : Encoding → Point → Point → Point → Width → Geometry
 made_geometry e offset size chunk width = record { offset = offset; size = size; chunk = chunk; width = width; encoding = e }
 
-geometry-dest : (e : Encoding) (key : List ℕ) (r z : Data) (o size c : Point) (w : Width) → all_within 0 largest_place o ≡ true → ends_within o size ≡ true → all_within 1 largest_side c ≡ true
+geometry-dest : (n : ℕ) (e : Encoding) (key : List ℕ) (r z : Data) (o size c : Point) (w : Width) → all_within 0 largest_place o ≡ true → ends_within o size ≡ true → all_within 1 largest_side c ≡ true
     → is_read w e ≡ true → geometry_fits (made_geometry e o size c w) ≡ true
     → is_absent_or_null (get (codes "sharding") (members_of e key (point_data c) r z (point_data o))) ≡ true
-    → geometry_of 0 w size (members_of e key (point_data c) r z (point_data o)) ≡ Ok (made_geometry e o size c w)
+    → geometry_of n w size (members_of e key (point_data c) r z (point_data o)) ≡ Ok (made_geometry e o size c w)
 unfolding geometry_of
-geometry-dest e key r z o size c w h ends k reads fits whole =
-    rw (offset-dest e key (point_data c) r z size o h ends, chunk-dest e key c r z (point_data o) k, encoding-dest e w key (point_data c) r z (point_data o) reads, whole, fits) refl
+geometry-dest n e key r z o size c w h ends k reads fits whole =
+    rw (offset-dest n e key (point_data c) r z size o h ends, chunk-dest n e key c r z (point_data o) k, encoding-dest n e w key (point_data c) r z (point_data o) reads, whole, fits) refl
 
 whole-dest : (e : Encoding) (key : List ℕ) (c r z o : Data) → is_absent_or_null (get (codes "sharding") (members_of e key c r z o)) ≡ true
 whole-dest Raw key c r z o = refl
@@ -138,16 +139,16 @@ whole-dest (Cseg block) key c r z o = refl
 abbrev made_scale : Encoding → List ℕ → Point → Point → Point → Point → Width → Scale
 made_scale e key resolution offset size chunk width = record { key = key; resolution = resolution; geometry = made_geometry e offset size chunk width }
 
-scale-dest : (e : Encoding) (key : List ℕ) (r o size c : Point) (w : Width) → is_path key ≡ true → nat_le (length key) 100 ≡ true → all_within 1 (2 ^ 32) r ≡ true → all_within 1 largest_place size ≡ true
+scale-dest : (earlier : List Scale) (e : Encoding) (key : List ℕ) (r o size c : Point) (w : Width) → is_path key ≡ true → nat_le (length key) 100 ≡ true → all_within 1 (2 ^ 32) r ≡ true → all_within 1 largest_place size ≡ true
     → all_within 0 largest_place o ≡ true → ends_within o size ≡ true → all_within 1 largest_side c ≡ true → is_read w e ≡ true → geometry_fits (made_geometry e o size c w) ≡ true
-    → scale_of w [] (members_of e key (point_data c) (point_data r) (point_data size) (point_data o)) ≡ Ok (made_scale e key r o size c w)
+    → has_key earlier key ≡ false → scale_of w earlier (members_of e key (point_data c) (point_data r) (point_data size) (point_data o)) ≡ Ok (made_scale e key r o size c w)
 unfolding scale_of
-scale-dest e key r o size c w p n a b h ends k reads fits =
+scale-dest earlier e key r o size c w p n a b h ends k reads fits new =
     rw (
-      key-dest e key (point_data c) (point_data r) (point_data size) (point_data o) p n,
-      size-dest e key (point_data c) (point_data r) (point_data o) size largest_place b,
-      resolution-dest e key (point_data c) (point_data size) (point_data o) r (2 ^ 32) a,
-      geometry-dest e key (point_data r) (point_data size) o size c w h ends k reads fits (whole-dest e key (point_data c) (point_data r) (point_data size) (point_data o)),
+      key-dest earlier e key (point_data c) (point_data r) (point_data size) (point_data o) p n new,
+      size-dest (length earlier) e key (point_data c) (point_data r) (point_data o) size largest_place b,
+      resolution-dest (length earlier) e key (point_data c) (point_data size) (point_data o) r (2 ^ 32) a,
+      geometry-dest (length earlier) e key (point_data r) (point_data size) o size c w h ends k reads fits (whole-dest e key (point_data c) (point_data r) (point_data size) (point_data o)),
     ) refl
 
 -- what a geometry that fits has, as the reader asks it
@@ -221,18 +222,29 @@ read-dest w ms s whole e = rw (head-dest w (object ms) whole, items-dest (width_
 abbrev IsReadBack : Scale → Type 0
 IsReadBack s = info_of (dest_data s) ≡ Ok (record { members = dest_data s; scales = s ∷ [] })
 
-scale-read : (e : Encoding) (key : List ℕ) (r o size c : Point) (w : Width) → scale_fits (made_scale e key r o size c w) ≡ true
-    → scale_of w [] (members_of e key (point_data c) (point_data r) (point_data size) (point_data o)) ≡ Ok (made_scale e key r o size c w)
-scale-read e key r o size c w fits =
+scale-read : (earlier : List Scale) (e : Encoding) (key : List ℕ) (r o size c : Point) (w : Width) → scale_fits (made_scale e key r o size c w) ≡ true
+    → has_key earlier key ≡ false → scale_of w earlier (members_of e key (point_data c) (point_data r) (point_data size) (point_data o)) ≡ Ok (made_scale e key r o size c w)
+scale-read earlier e key r o size c w fits new =
     let a = and_parts (is_path key) _ fits in
     let b = and_parts (nat_le (length key) 100) _ a.1 in
     let d = and_parts (all_within 1 (2 ^ 32) r) (geometry_fits (made_geometry e o size c w)) b.1 in
     let g = made_geometry e o size c w in
-    scale-dest e key r o size c w a.0 b.0 d.0 (size-fits g d.1) (offset-fits g d.1) (ends-fits g d.1) (chunk-fits g d.1) (encoding-fits g d.1) d.1
+    scale-dest earlier e key r o size c w a.0 b.0 d.0 (size-fits g d.1) (offset-fits g d.1) (ends-fits g d.1) (chunk-fits g d.1) (encoding-fits g d.1) d.1 new
 
 made_read_back : (e : Encoding) (key : List ℕ) (r o size c : Point) (w : Width) → scale_fits (made_scale e key r o size c w) ≡ true → IsReadBack (made_scale e key r o size c w)
-made_read_back Raw key r o size c w fits = read-dest w _ (made_scale Raw key r o size c w) refl (scale-read Raw key r o size c w fits)
-made_read_back (Cseg block) key r o size c w fits = read-dest w _ (made_scale (Cseg block) key r o size c w) refl (scale-read (Cseg block) key r o size c w fits)
+made_read_back Raw key r o size c w fits = read-dest w _ (made_scale Raw key r o size c w) refl (scale-read [] Raw key r o size c w fits refl)
+made_read_back (Cseg block) key r o size c w fits = read-dest w _ (made_scale (Cseg block) key r o size c w) refl (scale-read [] (Cseg block) key r o size c w fits refl)
 
 pub dest_read_back : (s : Scale) → scale_fits s ≡ true → IsReadBack s
 dest_read_back s = made_read_back s.geometry.encoding s.key s.resolution s.geometry.offset s.geometry.size s.geometry.chunk s.geometry.width
+
+-- ---- a scale after others
+
+made_later : (earlier : List Scale) (e : Encoding) (key : List ℕ) (r o size c : Point) (w : Width) → scale_fits (made_scale e key r o size c w) ≡ true → has_key earlier key ≡ false
+    → scale_of w earlier (scale_data (made_scale e key r o size c w)) ≡ Ok (made_scale e key r o size c w)
+made_later earlier Raw key r o size c w fits new = scale-read earlier Raw key r o size c w fits new
+made_later earlier (Cseg block) key r o size c w fits new = scale-read earlier (Cseg block) key r o size c w fits new
+
+-- the members of a scale with a new key are read as that scale
+pub later_read_back : (earlier : List Scale) (s : Scale) → scale_fits s ≡ true → has_key earlier s.key ≡ false → scale_of s.geometry.width earlier (scale_data s) ≡ Ok s
+later_read_back earlier s = made_later earlier s.geometry.encoding s.key s.resolution s.geometry.offset s.geometry.size s.geometry.chunk s.geometry.width

@@ -8,3 +8,4 @@ pub mod Scales
 pub mod Whole
 pub mod Reading
 pub mod Dest
+pub mod Added

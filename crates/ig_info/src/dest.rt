@@ -56,7 +56,7 @@ fn cseg_value(alloc: Global, scale: &Scale, block: Point) -> Result<Value, Alloc
 }
 
 /// The members of a scale.
-fn scale_value(alloc: Global, scale: &Scale) -> Result<Value, AllocError>
+pub(crate) fn scale_value(alloc: Global, scale: &Scale) -> Result<Value, AllocError>
     ensures { IfOk result (λ v. data_of v ≡ scale_data scale.now) }
 {
     match scale.geometry.encoding {

@@ -47,6 +47,14 @@ impl Info {
         Info { members, scales }
     }
 
+    /// The members.
+    pub(crate) fn members(&self) -> &Value
+        ensures members { data_of result.now ≡ self.now.members }
+        ensures whole { IsInfo self.now }
+    {
+        &self.members
+    }
+
     /// The scales.
     pub(crate) fn scales(&self) -> &List<Scale>
         ensures { result.now ≡ self.now.scales }

@@ -3,6 +3,7 @@
 //! scale that this tool handles is refused here, and nowhere later.
 #![tactic(auto)]
 
+mod added;
 mod dest;
 mod error;
 mod floats;
@@ -16,6 +17,7 @@ mod read_scales;
 mod refusal;
 mod scale;
 
+pub use added::with_scale;
 pub use dest::{dest_info, point_value};
 pub use error::InfoError;
 pub use info::{Info, write_info};

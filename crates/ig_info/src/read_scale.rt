@@ -37,7 +37,7 @@ fn key_text(alloc: Global, value: &Value) -> Result<Option<Path>, InfoError>
 }
 
 /// Whether one of these scales has this key.
-fn holds_key(scales: &List<Scale>, key: &Path) -> bool
+pub(crate) fn holds_key(scales: &List<Scale>, key: &Path) -> bool
     ensures { result ≡ has_key scales.now key.now }
 {
     scales

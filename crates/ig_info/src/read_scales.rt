@@ -13,7 +13,7 @@ use serde_json::Value;
 use std::alloc::Global;
 
 /// The most scales that an info has.
-const MOST_SCALES: usize = 100;
+pub(crate) const MOST_SCALES: usize = 100;
 
 /// Whether each of the values is an object.
 fn are_objects(values: &[Value]) -> bool
