@@ -1,8 +1,8 @@
 //! The readers and writers of infos.
 use crate::numbers::point_text;
 use crate::{Told, World};
-use ig_info::{Info, InfoError, Scale, dest_info, read_info, write_info};
-use ig_space::{Encoding, TryClone, Width};
+use ig_info::{Info, InfoError, Scale, dest_info, read_info, with_scale, write_info};
+use ig_space::{Encoding, Geometry, TryClone, Width};
 use std::alloc::{AllocError, Global};
 
 fn refusal(alloc: Global, error: &InfoError) -> Result<String, AllocError> {
@@ -115,5 +115,37 @@ pub(crate) fn ask_dest(
     match dest_info(world.alloc, &scale.copy()?) {
         Ok(made) => write(world, &made, to),
         Err(e) => Ok(Told::new(world.alloc, refusal(world.alloc, &e)?)),
+    }
+}
+
+/// The info with the first scale of another one added last, in its own width.
+fn longer(world: &mut World, info: &Info, other: &Info, to: &str) -> Result<Told, AllocError> {
+    let (Some(own), Some(scale)) = (info.scale(0), other.scale(0)) else {
+        return Told::of(world.alloc, "no scale");
+    };
+    let more = Scale {
+        key: scale.key.copy()?,
+        resolution: scale.resolution,
+        geometry: Geometry {
+            width: own.geometry.width,
+            ..scale.geometry
+        },
+    };
+    match with_scale(world.alloc, info, &more) {
+        Ok(made) => write(world, &made, to),
+        Err(e) => Ok(Told::new(world.alloc, refusal(world.alloc, &e)?)),
+    }
+}
+
+/// `with_scale FROM OTHER TO`: the info at FROM, with the first scale of the other one added last.
+pub(crate) fn ask_longer(
+    world: &mut World,
+    path: &str,
+    other: &str,
+    to: &str,
+) -> Result<Told, AllocError> {
+    match (info_at(world, path)?, info_at(world, other)?) {
+        (Ok(info), Ok(other)) => longer(world, &info, &other, to),
+        (Err(told), _) | (_, Err(told)) => Ok(told),
     }
 }

@@ -3,7 +3,7 @@
 use crate::codecs::{ask_decode, ask_encode, labels_of, read_form};
 use crate::files::{ask_count, ask_file};
 use crate::globals::{ask_number, ask_parts as ask_whole, ask_total, ask_walk};
-use crate::infos::{ask_dest, ask_read, ask_write};
+use crate::infos::{ask_dest, ask_longer, ask_read, ask_write};
 use crate::mips::{ask_mips, ask_mode, ask_row};
 use crate::moves::ask_move;
 use crate::names::{
@@ -239,6 +239,7 @@ fn ask_fixed(world: &mut World, word: &str, rest: &[&str]) -> Answer {
         [path] => ask_one(world, word, path),
         [first, second] => ask_pair(world, word, first, second),
         [path, mip, to] if word == "dest_info" => ask_dest_of(world, path, mip, to),
+        [path, other, to] if word == "with_scale" => Ok(Some(ask_longer(world, path, other, to)?)),
         _ => Ok(None),
     }
 }
