@@ -63,7 +63,7 @@ are-wanted s sound k below files outputs e = record {
   gone = λ removes. none_wanted s (volume_at files s.source) (paths_of s k) outputs e (own-none s (sound-kind s sound) removes);
 }
 
-no_scratch : (s : Stage) → IsSoundKind s → (k : ℕ) → scratch_read s.kind s k ≡ []
+pub no_scratch : (s : Stage) → IsSoundKind s → (k : ℕ) → scratch_read s.kind s k ≡ []
 no_scratch s (is_xfer is none c) k = ap (λ (kind : Kind). scratch_read kind s k) is
 no_scratch s (is_remove is none r) k = ap (λ (kind : Kind). scratch_read kind s k) is
 

@@ -7,6 +7,7 @@ use Rattle.ig_defs.specs.Files.{Files, file_at}
 use Rattle.ig_defs.specs.Log.{after}
 use Rattle.ig_defs.specs.QueueNames.{queue_fits, task_of}
 use Rattle.ig_record.specs.declared.stage.Stage.{Stage}
+use Rattle.ig_meaning.specs.Jobs.{with_outputs}
 use Rattle.ig_rule.specs.Facts.{Facts}
 use Rattle.ig_rule.specs.QueueFiles.{Dead, Done, IsApartFrom, Queued, Record, queue_of}
 use Rattle.ig_rule.specs.Rule.{Allowed}
@@ -20,7 +21,7 @@ use Rattle.ig_worker.specs.declared.phase.Then.TheVariants.{Ask, Try, Count}
 use Rattle.ig_worker.specs.declared.plan.Plan.{Plan}
 use Rattle.ig_worker.specs.declared.turn.End.TheVariants.{Finished}
 use Rattle.ig_defs.specs.Answers.{Takes}
-use Rattle.ig_worker.specs.CanFinish.{AreInOrder, IsAhead, RunInOrder, stage_at, with_outputs}
+use Rattle.ig_worker.specs.CanFinish.{AreInOrder, IsAhead, RunInOrder, stage_at}
 use Rattle.ig_worker.specs.Fit.{IsFit}
 use Rattle.ig_worker.specs.Knows.{Knows}
 use Rattle.ig_worker.specs.Moves.{Leads, Move}

@@ -1,7 +1,6 @@
 -- Nothing keeps a worker by itself from finishing all tasks of its queue: this project's own.
 use Rattle.std.specs.Prelude.{◌≡◌, ◌≤◌, ◌<◌, ℕ, List, [], ◌∷◌, All, length, Option, None, Some, Contains, IsSome, option_and_then}
 use Rattle.std.specs.Cmp.Lexicographic.{slice_cmp}
-use Rattle.std.specs.FinMap as map
 use Rattle.std.specs.List.Sorted.{IsStrictlySortedBy}
 use Rattle.std.specs.Ordering.{nat_cmp}
 use Rattle.ig_space.specs.declared.task_id.TaskId.{TaskId}
@@ -10,11 +9,12 @@ use Rattle.ig_defs.specs.Files.{Files, file_at}
 use Rattle.ig_cutout.specs.declared.types.Output.{Output}
 use Rattle.ig_record.specs.declared.stage.Stage.{Stage}
 use Rattle.ig_record.specs.Reading.{record_in}
+use Rattle.ig_meaning.specs.Jobs.{with_outputs}
+use Rattle.ig_meaning.specs.Task.{task_outputs}
 use Rattle.ig_rule.specs.Facts.{Facts}
 use Rattle.ig_rule.specs.QueueFiles.{Dead, Queued, Record, queue_of}
 use Rattle.ig_rule.specs.Stages.{Clear, Sealed, stages_in}
 use Rattle.ig_queue.specs.Candidates.{rank}
-use Rattle.ig_task.specs.Answers.{MakesOutputs}
 use Rattle.ig_task.specs.Facts.{stage_reader}
 use Rattle.ig_worker.specs.declared.plan.Plan.{Plan}
 
@@ -23,21 +23,12 @@ abbrev pub stage_at : List ℕ → Files → ℕ → Option Stage
 stage_at q files n = option_and_then (record_in n) (queue_of q files (Record n))
 
 -- ---- tasks, one after the other
--- the files once an output is put, or is taken away
-abbrev pub with_text : Files → List ℕ → Option (List ℕ) → Files
-with_text files path (Some bytes) = map.insert files path bytes
-with_text files path None = map.remove files path
-
-abbrev pub with_outputs : Files → List Output → Files
-with_outputs files [] = files
-with_outputs files (output ∷ outputs) = with_outputs (with_text files output.path output.text) outputs
-
 -- The task of the name does not refuse over these files.
 pub record Runs (stages : ℕ → Option Stage) (files : Files) (name : QueueName) : Type 0 where
   pub stage : Stage
   pub is : stages name.stage ≡ Some stage
   pub outputs : List Output
-  pub makes : MakesOutputs stage name.task (file_at files) outputs
+  pub makes : task_outputs stage name.task (file_at files) ≡ Some outputs
 
 -- None of the tasks of these names refuses, each over the files as they are when those before it are done.
 abbrev pub RunInOrder : (ℕ → Option Stage) → Files → List QueueName → Type 0
