@@ -33,9 +33,9 @@ use Rattle.ig_task.specs.Wanted.{AreWanted, HasWantedText, path_of}
 use Rattle.ig_worker.specs.declared.notes.Notes.{Notes}
 use Rattle.ig_worker.specs.declared.phase.Phase.{Phase}
 use Rattle.ig_worker.specs.AloneFiles.{chunk_apart, remove_absent, task_path_apart}
-use Rattle.ig_worker.specs.AloneGoing.{Agree, AllKnown, CanRun, IsKept, IsRun}
+use Rattle.ig_worker.specs.AloneGoing.{Agree, AllKnown, CanRun, IsKept, IsRun, RunInOrder, Runs}
 use Rattle.ig_worker.specs.AloneRounds.{noted_of}
-use Rattle.ig_worker.specs.CanFinish.{RunInOrder, Runs, stage_at}
+use Rattle.ig_worker.specs.CanFinish.{stage_at}
 use Rattle.ig_worker.specs.Fit.{AreFitNotes}
 use Rattle.ig_worker.specs.KeepsInputs.{inputs_are}
 use Rattle.ig_worker.specs.KeepsLists.{first_in, later_in, map_in, stage_in-among}

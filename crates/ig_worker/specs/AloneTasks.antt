@@ -29,13 +29,13 @@ use Rattle.ig_worker.specs.declared.phase.Phase.TheVariants.{Fetching, Finishing
 use Rattle.ig_worker.specs.declared.turn.Why.{Why}
 use Rattle.ig_worker.specs.declared.turn.Why.TheVariants as why
 use Rattle.ig_worker.specs.AloneFiles.{agree_outputs, remove_absent, text_outside}
-use Rattle.ig_worker.specs.AloneGoing.{GoesOn, IsHanding, IsHolding, IsKept, StaysGoing}
+use Rattle.ig_worker.specs.AloneGoing.{GoesOn, IsHanding, IsHolding, IsKept, RunInOrder, StaysGoing}
 use Rattle.ig_worker.specs.AloneKept.{ahead_on, all_on, kept_on, moved_on, queue_kept, turned_kept}
 use Rattle.ig_worker.specs.AloneLeft.{left_done, left_on}
 use Rattle.ig_worker.specs.AloneRuns.{chunk_is_apart, input_there, makes_of, path_is_apart}
 use Rattle.ig_worker.specs.AloneTries.{can_on, goes_fetching, goes_trying}
 use Rattle.ig_defs.specs.Answers.{Answer, Found, Names, Put, Takes, WasThere, act_if}
-use Rattle.ig_worker.specs.CanFinish.{RunInOrder, stage_at}
+use Rattle.ig_worker.specs.CanFinish.{stage_at}
 use Rattle.ig_worker.specs.Fit.{AreFitNotes, IsFetching, IsFinishing, IsRunning}
 use Rattle.ig_worker.specs.KeepsFiles.{found-holds, next_path, next_path-among}
 use Rattle.ig_worker.specs.KeepsLeases.{known_one}
