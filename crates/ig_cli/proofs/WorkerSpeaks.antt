@@ -56,13 +56,13 @@ learning_goes : (known : Known) (unread : List ℕ) (later : Then) → unsaid (l
 learning_goes known [] later = learnt_all_goes known later
 learning_goes known (n ∷ unread) later = refl
 
-learnt_by_goes : (notes : Notes) (n : ℕ) (unread : List ℕ) (later : Then) (s : Option Stage) → unsaid (learnt_by notes n unread later s).phase ≡ []
-learnt_by_goes notes n unread later None = refl
-learnt_by_goes notes n unread later (Some s) = learning_goes _ unread later
+learnt_by_goes : (notes : Notes) (n : ℕ) (unread : List ℕ) (later : Then) (text : List ℕ) (s : Option Stage) → unsaid (learnt_by notes n unread later text s).phase ≡ []
+learnt_by_goes notes n unread later text None = refl
+learnt_by_goes notes n unread later text (Some s) = learning_goes _ unread later
 
 learnt_goes : (notes : Notes) (n : ℕ) (unread : List ℕ) (later : Then) (found : Option (List ℕ)) → unsaid (learnt notes n unread later found).phase ≡ []
 learnt_goes notes n unread later None = refl
-learnt_goes notes n unread later (Some text) = learnt_by_goes notes n unread later (record_in n text)
+learnt_goes notes n unread later (Some text) = learnt_by_goes notes n unread later text (record_in n text)
 
 next_goes : (names : List QueueName) → Goes (next_try names)
 next_goes [] = record { none = refl; more = refl }

@@ -122,7 +122,7 @@ module _ (s : Stage) (k : ℕ) (given other : Reading) (same : AgreeOn (inputs_o
   task_outputs-agrees sound below =
       ap (λ refusal. unless refusal (makes_by s.kind s k (labels_given s k given) (texts_given s k given))) task_refusal-agrees
       ∙ ap (λ labels. unless (task_refusal s k other) (makes_by s.kind s k labels (texts_given s k given)))
-        (labels-agree s.source (IsSound-from s sound).fits given other (box_read s.kind s k) (box_read-within s k sound below) chunks-same)
+      (labels-agree s.source (IsSound-from s sound).fits given other (box_read s.kind s k) (box_read-within s k sound below) chunks-same)
       ∙ ap (λ texts. unless (task_refusal s k other) (makes_by s.kind s k (labels_given s k other) texts)) texts-same
 
 -- ---- refusals

@@ -13,6 +13,7 @@ use Rattle.ig_meaning.specs.Agreeing.{AgreeOn, task_refusal-agrees}
 use Rattle.ig_meaning.specs.Fault.{Find, begin_with, fault_of_tasks, finds_in, found_among}
 use Rattle.ig_meaning.specs.Refusal.{Refusal}
 use Rattle.ig_meaning.specs.Task.{task_refusal}
+
 -- ---- finds of the paths, in order
 bytes_eq-self : (text : List ℕ) → bytes_eq text text ≡ true
 bytes_eq-self text = (bytes_eq-Decides text text).1 refl
@@ -88,4 +89,3 @@ pub fault_of_tasks-unread : (s : Stage) (left k : ℕ) (given : List ℕ → Opt
 fault_of_tasks-unread s zero k given some fewer = refl
 fault_of_tasks-unread s (suc left) k given some fewer =
     rw (begin_with-short (inputs_of s k) (finds_in given some) (omega (arith, length-finds given some, fewer))) refl
-

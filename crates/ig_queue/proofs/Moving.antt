@@ -87,9 +87,11 @@ module _ (allows : Bool → Files → Act → Type 0) (read : Reader) (role : Ro
 
   answered_legal : (answer : Answer) → IsAnswered allows old new (Shifts (path_of q (Queued name)) (path_of q other)) answer → Legal read q new
   answered_legal answer t =
-      others_then_own_legal read role q old new t.acted.others (t.act ∷ []) (by_others_as allows read role q keep (files_of old) t.acted.others t.acted.by) t.acted.opening t.acted.grown
-      (own_allowed read q (path_of q (Queued name)) (path_of q other) (files_of old) t.acted.others answer t.act t.takes
-      (may_move read q (replay (files_of old) t.acted.others) name other fitting fit (becomes t.acted.others t.acted.by)), tt) legal
+      others_then_own_legal read role q old new t.acted.others (t.act ∷ []) (by_others_as allows read role q keep (files_of old) t.acted.others t.acted.by) t.acted.opening t.acted.grown (
+        own_allowed read q (path_of q (Queued name)) (path_of q other) (files_of old) t.acted.others answer t.act t.takes
+            (may_move read q (replay (files_of old) t.acted.others) name other fitting fit (becomes t.acted.others t.acted.by)),
+        tt,
+      ) legal
 
   moved_legal : (result : Result Bool StoreError) → Answered allows old new (Shifts (path_of q (Queued name)) (path_of q other)) (answer_by WasThere result) → Legal read q new
   moved_legal (Ok there) t = answered_legal (WasThere there) t

@@ -65,9 +65,11 @@ module _ (s : Stage) (can : CanRun s) where
     plan_goes_on : (n : ℕ) → n ≤ task_count s → (rest : List File) × (planned_puts s (files_of old) ≡ (info_files s.info ++ first_puts n) ++ rest)
     unfolding first_puts
     plan_goes_on n few =
-        let p = changes-grow s begun n (task_count s) few in
-        (files_put p.0, plan ∙ ap (λ puts. info_files s.info ++ puts) (ap files_put p.1 ∙ files_put-append (ran_first s begun n).changes p.0)
-            ∙ sym (append_assoc (info_files s.info) (files_put (ran_first s begun n).changes) (files_put p.0)))
+        let p = changes-grow s begun n (task_count s) few in (
+          files_put p.0,
+          plan ∙ ap (λ puts. info_files s.info ++ puts) (ap files_put p.1 ∙ files_put-append (ran_first s begun n).changes p.0)
+              ∙ sym (append_assoc (info_files s.info) (files_put (ran_first s begun n).changes) (files_put p.0)),
+        )
 
     no_memory : (new : Log) (acts : List Act) → Did old new acts → after_all (files_of old) acts ≡ put_all (files_of old) (puts_of (moments_from (files_of old) acts))
         → AreFirst (puts_of (moments_from (files_of old) acts)) (planned_puts s (files_of old)) → Runs s old new NoMemory

@@ -126,8 +126,8 @@ module _ (s : Stage) (old mid new : Log) (n : ℕ) (below : n < task_count s) (s
             ∙ ap (λ first. first ++ outputs) so.puts
             ∙ append_assoc (info_files s.info) (files_put (ran_first s begun n).changes) outputs
             ∙ ap (λ puts. info_files s.info ++ puts)
-              (sym (ap (λ m. files_put (ran_first s begun m).changes) one_more ∙ ap (λ (r : Ran). files_put r.changes) next
-              ∙ files_put-append (ran_first s begun n).changes (map output_of outputs) ∙ ap (λ last. files_put (ran_first s begun n).changes ++ last) (files_put-of outputs)));
+            (sym (ap (λ m. files_put (ran_first s begun m).changes) one_more ∙ ap (λ (r : Ran). files_put r.changes) next
+            ∙ files_put-append (ran_first s begun n).changes (map output_of outputs) ∙ ap (λ last. files_put (ran_first s begun n).changes ++ last) (files_put-of outputs)));
         reads = all_reads acts did ∙ ap (λ last. reads_of (moments_from (files_of old) so.acts) ++ last) (reads_of-task s n (files_of mid) outputs)
             ∙ ap (λ first. first ++ inputs_of s n) so.reads
             ∙ sym (ap (λ m. flattened (listed (inputs_of s) m)) one_more ∙ flattened-next (inputs_of s) n);

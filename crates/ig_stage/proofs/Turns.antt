@@ -37,15 +37,15 @@ replay-own files (a ∷ acts) = replay-own (after files a) acts
 
 did : {allows : Bool → Files → Act → Type 0} {old new : Log} {acts : List Act} → OthersOnlyRead allows → Grew allows old new acts → Did old new acts
 did {allows = allows} {old = old} {acts = acts} reads t =
-      let kept = replay-others allows reads (files_of old) t.others t.by in
-      let w = went_of t in
-      record {
-        steps = w.steps;
-        opening = w.opening;
-        grown = w.grown;
-        moments = w.moments ∙ ap (λ files. own_moments files (own_all acts)) kept ∙ own_moments-own (files_of old) acts;
-        files = files_then t ∙ ap (λ files. replay files (own_all acts)) kept ∙ replay-own (files_of old) acts;
-      }
+    let kept = replay-others allows reads (files_of old) t.others t.by in
+    let w = went_of t in
+    record {
+      steps = w.steps;
+      opening = w.opening;
+      grown = w.grown;
+      moments = w.moments ∙ ap (λ files. own_moments files (own_all acts)) kept ∙ own_moments-own (files_of old) acts;
+      files = files_then t ∙ ap (λ files. replay files (own_all acts)) kept ∙ replay-own (files_of old) acts;
+    }
 
 -- what stood at some moment of others who only read stands before them
 stands_first : (allows : Bool → Files → Act → Type 0) → OthersOnlyRead allows → (dir name : List ℕ) (files : Files) (others : List Step) → ByOthers allows files others → StandsOnce files others dir name → Stands files dir name

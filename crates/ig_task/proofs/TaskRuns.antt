@@ -113,7 +113,7 @@ label-within volume box k below =
     let p = point_at (size_of box) k in
     let place = point_at-place (size_of box) k below in
     let inside = IsIn-is_in box (box.lo.x + p.x) (box.lo.y + p.y) (box.lo.z + p.z)
-        (record { x_from = omega arith; x_to = omega (arith, place.x); y_from = omega arith; y_to = omega (arith, place.y); z_from = omega arith; z_to = omega (arith, place.z) }) in
+    (record { x_from = omega arith; x_to = omega (arith, place.x); y_from = omega arith; y_to = omega (arith, place.y); z_from = omega arith; z_to = omega (arith, place.z) }) in
     ap (λ test. if test then volume (box.lo.x + p.x) (box.lo.y + p.y) (box.lo.z + p.z) else None) inside
 
 pub labels_in-within : (volume : Labels) (box : Box3) → labels_in (labels_within (Some box) volume) box ≡ labels_in volume box

@@ -10,7 +10,7 @@ use Rattle.ig_defs.specs.Files.{Files}
 use Rattle.ig_defs.specs.Log.{Log}
 use Rattle.ig_cutout.specs.declared.types.Output.{Output}
 use Rattle.ig_record.specs.Columns.{paths_of}
-use Rattle.ig_task.specs.Outputs.{path_of}
+use Rattle.ig_task.specs.Wanted.{path_of}
 use Rattle.ig_worker.specs.declared.next.Next.{Next}
 use Rattle.ig_worker.specs.declared.notes.Notes.{Notes}
 use Rattle.ig_worker.specs.declared.phase.Phase.{Phase}

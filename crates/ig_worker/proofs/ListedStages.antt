@@ -10,7 +10,7 @@ use Rattle.ig_defs.specs.QueueNames.{stage_file, stage_fits}
 use Rattle.ig_defs.specs.QueueNameLaws.{stage_file-same}
 use Rattle.ig_layer.specs.Faults.{first_of}
 use Rattle.ig_meaning.specs.QueueMaking.{stage_named}
-use Rattle.ig_task.specs.Lists.{first_of-from, first_of-is}
+use Rattle.ig_meaning.specs.Lists.{first_of-from, first_of-is}
 use Rattle.ig_worker.specs.Stages.{Known, is_last, stage_in, unknown_after, unknown_listed, with_unknown}
 
 -- ---- the name of a record

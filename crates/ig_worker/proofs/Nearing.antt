@@ -1,11 +1,12 @@
 -- Each step leads nearer to the end.
-use Rattle.std.specs.Prelude.{◌≡◌, ◌+◌, ◌*◌, ◌-◌, ◌^◌, ◌<◌, ◌≤◌, ◌==◌, ◌++◌, if◌then◌else◌, ℕ, suc, Bool, true, false, List, [], ◌∷◌, length, nat_le, Option, None, Some, Result, Ok, Err, IfOk, codes, refl}
+use Rattle.std.specs.Prelude.{◌≡◌, ◌+◌, ◌*◌, ◌-◌, ◌^◌, ◌<◌, ◌≤◌, ◌==◌, ◌++◌, if◌then◌else◌, ℕ, suc, Bool, true, false, List, [], ◌∷◌, length, nat_le, Option, None, Some, Result, Ok, Err, IfOk, refl}
 use Rattle.std.proofs.Common.{inl, inr, ap, sym, subst, ◌∙◌, arith, length-append, true≢false}
 use Rattle.ig_space.specs.declared.task_id.TaskId.{TaskId}
 use Rattle.ig_defs.specs.declared.queue_name.QueueName.{QueueName}
 use Rattle.ig_cutout.specs.declared.types.Input.{Input}
 use Rattle.ig_cutout.specs.declared.types.Output.{Output}
 use Rattle.ig_record.specs.declared.stage.Stage.{Stage}
+use Rattle.ig_record.specs.Answers.{record_fault}
 use Rattle.ig_record.specs.Reading.{record_in}
 use Rattle.ig_record.specs.Columns.{inputs_of}
 use Rattle.ig_meaning.specs.QueueMaking.{record_path}
@@ -182,13 +183,13 @@ nearer_tries true from to notes name names ahead m turns leads =
 nearer_tries false from to notes name names ahead m turns leads =
     nearer_to (stands notes (Trying ahead)) m _ leads.is (nearer_try notes (tried_one (asked notes leads.now)) (Trying ahead) (leased_or_gone leads.there notes.known (leased notes leads.now name) names) turns refl refl (below_leased leads.there notes.known (leased notes leads.now name) names))
 
-nearer_learnt_by : (notes : Notes) (n : ℕ) (unread : List ℕ) (after : Then) (s : Option Stage) → IsNearer (stands notes (Learning (n ∷ unread) after)) (learnt_by notes n unread after s)
-nearer_learnt_by notes n unread after None = nearer_broken notes (Learning (n ∷ unread) after) (BadRecord (record_path notes.plan.queue n) (codes "$")) refl
-nearer_learnt_by notes n unread after (Some s) = nearer_same notes (noted notes n s) (Learning (n ∷ unread) after) _ refl (below_learning _ unread after)
+nearer_learnt_by : (notes : Notes) (n : ℕ) (unread : List ℕ) (after : Then) (text : List ℕ) (s : Option Stage) → IsNearer (stands notes (Learning (n ∷ unread) after)) (learnt_by notes n unread after text s)
+nearer_learnt_by notes n unread after text None = nearer_broken notes (Learning (n ∷ unread) after) (BadRecord (record_path notes.plan.queue n) (record_fault n text)) refl
+nearer_learnt_by notes n unread after text (Some s) = nearer_same notes (noted notes n s) (Learning (n ∷ unread) after) _ refl (below_learning _ unread after)
 
 nearer_learnt : (notes : Notes) (n : ℕ) (unread : List ℕ) (after : Then) (found : Option (List ℕ)) → IsNearer (stands notes (Learning (n ∷ unread) after)) (learnt notes n unread after found)
 nearer_learnt notes n unread after None = nearer_broken notes (Learning (n ∷ unread) after) (Absent (record_path notes.plan.queue n)) refl
-nearer_learnt notes n unread after (Some text) = nearer_learnt_by notes n unread after (record_in n text)
+nearer_learnt notes n unread after (Some text) = nearer_learnt_by notes n unread after text (record_in n text)
 
 move_nearer : (from to : ℕ) (notes : Notes) (phase : Phase) (m : Move) → IsFitPhase notes phase → Leads from to notes phase m → IsNearer (stands notes phase) m.next
 move_nearer from to notes Starting m fits leads = nearer_row notes Starting m _ leads.1 refl (below_listed notes.known _ Ask)

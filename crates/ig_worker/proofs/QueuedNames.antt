@@ -6,7 +6,7 @@ use Rattle.ig_defs.specs.declared.queue_name.QueueName.{QueueName}
 use Rattle.ig_defs.specs.QueueNames.{queue_file, queue_fits}
 use Rattle.ig_defs.specs.QueueNameLaws.{IsName-fits, queue_file-same}
 use Rattle.ig_layer.specs.Faults.{first_of}
-use Rattle.ig_task.specs.Lists.{first_of-from, first_of-is}
+use Rattle.ig_meaning.specs.Lists.{first_of-from, first_of-is}
 
 -- this name has the text
 pub record IsNameOf (text : List ℕ) (name : QueueName) : Type 0 where

@@ -85,7 +85,7 @@ knowing notes known = record { plan = notes.plan; known = known; at = notes.at; 
 learnt_stage : (notes : Notes) (n : ℕ) (unread : List ℕ) (after : Then) (text : List ℕ) (s : Stage) (known : Known) (phase : Phase) → record_in n text ≡ Some s → known ≡ with_stage n s notes.known
     → phase ≡ learning known unread after → learnt notes n unread after (Some text) ≡ stands (knowing notes known) phase
 learnt_stage notes n unread after text s known phase is so next =
-    ap (learnt_by notes n unread after) is ∙ ap (λ (k : Known). stands (knowing notes k) (learning k unread after)) (sym so) ∙ ap (stands (knowing notes known)) (sym next)
+    ap (learnt_by notes n unread after text) is ∙ ap (λ (k : Known). stands (knowing notes k) (learning k unread after)) (sym so) ∙ ap (stands (knowing notes known)) (sym next)
 
 pub goes_to_learnt : (notes : Notes) (all : List ℕ) (n : ℕ) (unread : List ℕ) (after : Then) (text : List ℕ) (s : Stage) (known : Known) (phase : Phase) → all ≡ n ∷ unread → record_in n text ≡ Some s → known ≡ with_stage n s notes.known
     → phase ≡ learning known unread after → Goes (λ m. ReadsRecord notes all after m) (knowing notes known) (record { phase = phase; turn = On })
@@ -119,7 +119,7 @@ module _ (allows : Bool → Files → Act → Type 0) (old new : Log) (notes : N
   led_by now (BadRecord path member) given = (
     record_move notes n unread after (Some given.0),
     made (Some given.0) given.1,
-    ap (learnt_by notes n unread after) given.2.2 ∙ (λ i. stands notes (Broken (BadRecord (sym given.2.0 i) (sym given.2.1 i)))),
+    ap (learnt_by notes n unread after given.0) given.2.2 ∙ (λ i. stands notes (Broken (BadRecord (sym given.2.0 i) (sym given.2.1 i)))),
   )
   led_by now Failed given = stopped given
   led_by now Memory given = stopped given

@@ -9,7 +9,7 @@ use Rattle.ig_defs.specs.QueueNames.{stage_fits, task_file, task_fits}
 use Rattle.ig_defs.specs.QueueNameLaws.{IsTask-fits, task_file-same}
 use Rattle.ig_layer.specs.Faults.{first_of}
 use Rattle.ig_rule.specs.Stages.{task_id}
-use Rattle.ig_task.specs.Lists.{first_of-from, first_of-is}
+use Rattle.ig_meaning.specs.Lists.{first_of-from, first_of-is}
 use Rattle.ig_worker.specs.Counting.{Names, place_of}
 use Rattle.ig_worker.specs.Stages.{task_named, tasks_listed, with_letter}
 

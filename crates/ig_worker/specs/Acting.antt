@@ -11,7 +11,7 @@ use Rattle.ig_defs.specs.Answers.{Answer, Answered, Call, IsAnswered, Shifts, Wa
 use Rattle.ig_cutout.specs.declared.types.Output.{Output}
 use Rattle.ig_record.specs.declared.stage.Stage.{Stage}
 use Rattle.ig_record.specs.Columns.{paths_of}
-use Rattle.ig_task.specs.Outputs.{path_of}
+use Rattle.ig_task.specs.Wanted.{path_of}
 use Rattle.ig_worker.specs.declared.notes.Notes.{Notes}
 use Rattle.ig_worker.specs.declared.turn.Line.TheVariants as line
 use Rattle.ig_worker.specs.declared.turn.Why.{Why}

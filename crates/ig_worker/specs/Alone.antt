@@ -24,11 +24,12 @@ use Rattle.ig_worker.specs.declared.turn.End.TheVariants.{Finished, Spent}
 use Rattle.ig_worker.specs.AloneCalls.{AreOwn, call_alone, parts_own}
 use Rattle.ig_worker.specs.AloneDone.{done_goes}
 use Rattle.ig_worker.specs.AloneGoing.{GoesOn, GoesOnAt, StaysGoing}
+use Rattle.ig_worker.specs.AloneJobs.{run_in_order}
 use Rattle.ig_worker.specs.AloneListings.{closing_goes, dead_goes, learning_goes, starting_goes}
 use Rattle.ig_worker.specs.AloneRounds.{asking_goes}
 use Rattle.ig_worker.specs.AloneTasks.{fetching_goes, finishing_goes, running_goes}
 use Rattle.ig_worker.specs.AloneTries.{trying_goes}
-use Rattle.ig_worker.specs.CanFinish.{CanFinish}
+use Rattle.ig_worker.specs.CanFinish.{CanFinish, stage_at}
 use Rattle.ig_worker.specs.Course.{Course, end_at, fresh}
 use Rattle.ig_worker.specs.EndsCourse.{course_later, course_prefix}
 use Rattle.ig_worker.specs.EndsPlaces.{call_stays, course_keeps, fresh_stays}
@@ -51,7 +52,7 @@ fresh_goes plan at files h =
         record {
           only = h.only;
           left = record { in_order = h.in_order; only = λ name among. inl (h.only name among); each = λ name ahead. inl (h.each name ahead); due = h.due; tries = h.tries; turns = omega (arith, turns) };
-          can = record { files = files; agree = λ path apart. refl; run = h.run };
+          can = record { files = files; agree = λ path apart. refl; run = run_in_order (stage_at plan.queue files) h.names files h.run };
         },
       );
     }

@@ -6,7 +6,10 @@ use Rattle.ig_defs.specs.declared.step.Act.{Act}
 use Rattle.ig_defs.specs.Files.{Files, file_at}
 use Rattle.ig_defs.specs.Log.{after}
 use Rattle.ig_defs.specs.QueueNames.{queue_fits, task_of}
+use Rattle.ig_cutout.specs.declared.types.Output.{Output}
 use Rattle.ig_record.specs.declared.stage.Stage.{Stage}
+use Rattle.ig_meaning.specs.Jobs.{with_outputs}
+use Rattle.ig_meaning.specs.Task.{task_outputs}
 use Rattle.ig_rule.specs.Facts.{Facts}
 use Rattle.ig_rule.specs.QueueFiles.{Dead, Done, IsApartFrom, Queued, Record, queue_of}
 use Rattle.ig_rule.specs.Rule.{Allowed}
@@ -20,7 +23,7 @@ use Rattle.ig_worker.specs.declared.phase.Then.TheVariants.{Ask, Try, Count}
 use Rattle.ig_worker.specs.declared.plan.Plan.{Plan}
 use Rattle.ig_worker.specs.declared.turn.End.TheVariants.{Finished}
 use Rattle.ig_defs.specs.Answers.{Takes}
-use Rattle.ig_worker.specs.CanFinish.{AreInOrder, IsAhead, RunInOrder, stage_at, with_outputs}
+use Rattle.ig_worker.specs.CanFinish.{AreInOrder, IsAhead, stage_at}
 use Rattle.ig_worker.specs.Fit.{IsFit}
 use Rattle.ig_worker.specs.Knows.{Knows}
 use Rattle.ig_worker.specs.Moves.{Leads, Move}
@@ -72,6 +75,18 @@ pub record AreLeft (plan : Plan) (at tried : ℕ) (now : Files) (held : Option Q
 -- the files agree at each path that is no queue file's
 abbrev pub Agree : List ℕ → Files → Files → Type 0
 Agree q a b = (path : List ℕ) → IsApartFrom q path → file_at a path ≡ file_at b path
+
+-- The task of the name does not refuse over these files.
+pub record Runs (stages : ℕ → Option Stage) (files : Files) (name : QueueName) : Type 0 where
+  pub stage : Stage
+  pub is : stages name.stage ≡ Some stage
+  pub outputs : List Output
+  pub makes : task_outputs stage name.task (file_at files) ≡ Some outputs
+
+-- None of the tasks of these names refuses, each over the files as they are when those before it are done.
+abbrev pub RunInOrder : (ℕ → Option Stage) → Files → List QueueName → Type 0
+RunInOrder stages files [] = Unit {0}
+RunInOrder stages files (name ∷ names) = (run : Runs stages files name) × RunInOrder stages (with_outputs files run.outputs) names
 
 -- The tasks can be run in order, over files that agree with these.
 pub record CanRun (q : List ℕ) (stages : ℕ → Option Stage) (now : Files) (names : List QueueName) : Type 0 where

@@ -128,7 +128,7 @@ learns_on at from to first old new notes n unread m c goes =
     let r = readable q old n recorded.0 recorded.1 in
     let more = noted notes n r.stage in
     let next = stands more (learning more.known unread Ask) in
-    let there : m.next ≡ next = ap (λ (v : Move). v.next) c.leads.1 ∙ ap (learnt notes n unread Ask) (f.is ∙ r.stands) ∙ ap (learnt_by notes n unread Ask) r.reads in
+    let there : m.next ≡ next = ap (λ (v : Move). v.next) c.leads.1 ∙ ap (learnt notes n unread Ask) (f.is ∙ r.stands) ∙ ap (learnt_by notes n unread Ask r.text) r.reads in
     let ahead = goes.goes.1 in
     arrives at first old new m next there f.same
     (record {

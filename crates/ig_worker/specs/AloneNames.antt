@@ -25,7 +25,7 @@ use Rattle.ig_rule.specs.SoundNames.{has_record}
 use Rattle.ig_rule.specs.Stages.{stages_in}
 use Rattle.ig_rule.specs.declared.role.Role.TheVariants.{Worker}
 use Rattle.ig_task.specs.Facts.{stage_reader}
-use Rattle.ig_task.specs.Lists.{first_of-from}
+use Rattle.ig_meaning.specs.Lists.{first_of-from}
 use Rattle.ig_worker.specs.AloneGoing.{IsLearning}
 use Rattle.ig_worker.specs.EndsNames.{name_in}
 use Rattle.ig_worker.specs.KeepsListing.{listed_or_known, record_stands, stage_named-is}

@@ -15,23 +15,27 @@ use Rattle.ig_record.specs.declared.stage.Stage.{Stage}
 use Rattle.ig_record.specs.Sound.{is_sound}
 use Rattle.ig_record.specs.Columns.{inputs_of, paths_of, removed_dir}
 use Rattle.ig_record.specs.Stage.{task_count}
+use Rattle.ig_meaning.specs.Agreeing.{made-fine}
+use Rattle.ig_meaning.specs.Inputs.{input-stands}
+use Rattle.ig_meaning.specs.Jobs.{with_outputs, with_text}
+use Rattle.ig_meaning.specs.Task.{task_outputs}
+use Rattle.ig_meaning.specs.Wants.{is_chunk_of}
 use Rattle.ig_rule.specs.Facts.{Facts, KeepsChunks, StageLaws}
 use Rattle.ig_rule.specs.Keeps.{keep_laws}
 use Rattle.ig_rule.specs.QueueFiles.{Done, IsApartFrom, queue_of}
 use Rattle.ig_rule.specs.QueueSteps.{holds}
 use Rattle.ig_rule.specs.Sound.{Sound}
 use Rattle.ig_rule.specs.Stages.{Clear, Stands, stages_in}
-use Rattle.ig_task.specs.Answers.{MakesOutputs}
-use Rattle.ig_task.specs.Facts.{facts_of, is_chunk_of, stage_reader}
-use Rattle.ig_task.specs.Kinds.{kinds, outputs-are_wanted}
-use Rattle.ig_task.specs.Outputs.{path_of}
-use Rattle.ig_task.specs.Wanted.{AreWanted, HasWantedText}
+use Rattle.ig_task.specs.Facts.{facts_of, stage_reader}
+use Rattle.ig_task.specs.Kinds.{kinds}
+use Rattle.ig_task.specs.MadeOutputs.{outputs-are_wanted}
+use Rattle.ig_task.specs.Wanted.{AreWanted, HasWantedText, path_of}
 use Rattle.ig_worker.specs.declared.notes.Notes.{Notes}
 use Rattle.ig_worker.specs.declared.phase.Phase.{Phase}
-use Rattle.ig_worker.specs.AloneFiles.{chunk_apart, input_stands, remove_absent, task_path_apart}
-use Rattle.ig_worker.specs.AloneGoing.{Agree, AllKnown, CanRun, IsKept, IsRun}
+use Rattle.ig_worker.specs.AloneFiles.{chunk_apart, remove_absent, task_path_apart}
+use Rattle.ig_worker.specs.AloneGoing.{Agree, AllKnown, CanRun, IsKept, IsRun, RunInOrder, Runs}
 use Rattle.ig_worker.specs.AloneRounds.{noted_of}
-use Rattle.ig_worker.specs.CanFinish.{RunInOrder, Runs, stage_at, with_outputs, with_text}
+use Rattle.ig_worker.specs.CanFinish.{stage_at}
 use Rattle.ig_worker.specs.Fit.{AreFitNotes}
 use Rattle.ig_worker.specs.KeepsInputs.{inputs_are}
 use Rattle.ig_worker.specs.KeepsLists.{first_in, later_in, map_in, stage_in-among}
@@ -60,10 +64,10 @@ outputs_stay files (output ∷ outputs) all =
 module _ (notes : Notes) (first old : Files) (name : QueueName) (sound : Sound stage_reader notes.plan.queue old) (kept : IsKept notes.plan.queue first old notes.known) (s : Stage)
     (known : stage_in notes.known name.stage ≡ Some s) (is : stages_in stage_reader notes.plan.queue old name.stage ≡ Some (facts_of name.stage s)) where
   -- Its stage is the one of its run.
-  pub makes_of : (files : Files) (run : Runs (stage_at notes.plan.queue first) files name) → MakesOutputs s name.task (file_at files) run.outputs
+  pub makes_of : (files : Files) (run : Runs (stage_at notes.plan.queue first) files name) → task_outputs s name.task (file_at files) ≡ Some run.outputs
   makes_of files run =
       let same : run.stage ≡ s = same_Some run.stage s (sym run.is ∙ kept.known (name.stage, s) (stage_in-among notes.known name.stage s known)) in
-      subst (λ (t : Stage). MakesOutputs t name.task (file_at files) run.outputs) same run.makes
+      subst (λ (t : Stage). task_outputs t name.task (file_at files) ≡ Some run.outputs) same run.makes
 
   laws : StageLaws (facts_of name.stage s)
   laws = keep_laws stage_reader kinds (queue_of notes.plan.queue old) name.stage (facts_of name.stage s) is
@@ -81,7 +85,7 @@ module _ (notes : Notes) (first old : Files) (name : QueueName) (sound : Sound s
       → (path : List ℕ) → Contains (inputs_of s name.task) path → IsSome (file_at old path)
   input_there files run agree sound_stage below path among =
       let apart = chunk_is_apart path (inputs_are s sound_stage name.task below path among).is_chunk in
-      subst (λ (o : Option (List ℕ)). IsSome o) (sym (agree path apart)) (input_stands s sound_stage name.task (file_at files) (makes_of files run).fine path among)
+      subst (λ (o : Option (List ℕ)). IsSome o) (sym (agree path apart)) (input-stands s name.task (file_at files) (made-fine s name.task (file_at files) run.outputs (makes_of files run)).0 path among)
 
   -- ---- where it is done
   module _ (files : Files) (agree : Agree notes.plan.queue old files) (below : name.task < task_count s) (there : Stands old (facts_of name.stage s) name.task) where
@@ -112,7 +116,7 @@ module _ (notes : Notes) (first old : Files) (name : QueueName) (sound : Sound s
     pub run_stays : (run : Runs (stage_at notes.plan.queue first) files name) → is_sound s ≡ true → with_outputs files run.outputs ≡ files
     run_stays run sound_stage =
         let makes = makes_of files run in
-        outputs_stay files run.outputs (output_there run.outputs (outputs-are_wanted s sound_stage name.task below (file_at files) run.outputs makes.are))
+        outputs_stay files run.outputs (output_there run.outputs (outputs-are_wanted s sound_stage name.task below (file_at files) run.outputs makes))
 
 -- Where a name is gone since its task is done, the others can be run.
 pub can_after : (notes : Notes) (first old : Files) (phase : Phase) (name : QueueName) (names : List QueueName) → AreFitNotes notes → Sound stage_reader notes.plan.queue old → Knows (stands notes phase) old

@@ -14,27 +14,28 @@ use Rattle.ig_cutout.specs.declared.types.Output.{Output}
 use Rattle.ig_cutout.specs.Inputs.{HoldsAll}
 use Rattle.ig_record.specs.declared.stage.Stage.{Stage}
 use Rattle.ig_record.specs.Columns.{inputs_of, paths_of}
+use Rattle.ig_meaning.specs.Agreeing.{made-fine}
+use Rattle.ig_meaning.specs.Jobs.{with_outputs, with_text}
 use Rattle.ig_meaning.specs.Refusal.{Refusal}
-use Rattle.ig_meaning.specs.Stage.{task_refusal}
+use Rattle.ig_meaning.specs.Task.{task_outputs, task_refusal}
 use Rattle.ig_rule.specs.Known.{IsKnownLease}
 use Rattle.ig_rule.specs.QueueFiles.{Done, Queue, Queued, queue_of}
 use Rattle.ig_rule.specs.Sound.{Sound}
 use Rattle.ig_rule.specs.SoundFiles.{none_there}
 use Rattle.ig_rule.specs.Stages.{stages_in}
-use Rattle.ig_task.specs.Answers.{MakesOutputs}
 use Rattle.ig_task.specs.Facts.{stage_reader}
 use Rattle.ig_worker.specs.declared.notes.Notes.{Notes}
 use Rattle.ig_worker.specs.declared.phase.Phase.TheVariants.{Fetching, Finishing, Running}
 use Rattle.ig_worker.specs.declared.turn.Why.{Why}
 use Rattle.ig_worker.specs.declared.turn.Why.TheVariants as why
 use Rattle.ig_worker.specs.AloneFiles.{agree_outputs, remove_absent, text_outside}
-use Rattle.ig_worker.specs.AloneGoing.{GoesOn, IsHanding, IsHolding, IsKept, StaysGoing}
+use Rattle.ig_worker.specs.AloneGoing.{GoesOn, IsHanding, IsHolding, IsKept, RunInOrder, StaysGoing}
 use Rattle.ig_worker.specs.AloneKept.{ahead_on, all_on, kept_on, moved_on, queue_kept, turned_kept}
 use Rattle.ig_worker.specs.AloneLeft.{left_done, left_on}
 use Rattle.ig_worker.specs.AloneRuns.{chunk_is_apart, input_there, makes_of, path_is_apart}
 use Rattle.ig_worker.specs.AloneTries.{can_on, goes_fetching, goes_trying}
 use Rattle.ig_defs.specs.Answers.{Answer, Found, Names, Put, Takes, WasThere, act_if}
-use Rattle.ig_worker.specs.CanFinish.{RunInOrder, stage_at, with_outputs, with_text}
+use Rattle.ig_worker.specs.CanFinish.{stage_at}
 use Rattle.ig_worker.specs.Fit.{AreFitNotes, IsFetching, IsFinishing, IsRunning}
 use Rattle.ig_worker.specs.KeepsFiles.{found-holds, next_path, next_path-among}
 use Rattle.ig_worker.specs.KeepsLeases.{known_one}
@@ -162,14 +163,14 @@ module _ (notes : Notes) (name : QueueName) (given : List Input) (names : List Q
       let source = lease.sources file among in
       sym (hold.can.agree file.path (chunk_is_apart notes first old name sound kept s is lease.is file.path source.0)) ∙ source.1)
 
-  made : MakesOutputs s name.task (file_at hold.can.files) hold.can.run.0.outputs
+  made : task_outputs s name.task (file_at hold.can.files) ≡ Some hold.can.run.0.outputs
   made = makes_of notes first old name sound kept s is lease.is hold.can.files hold.can.run.0
 
   -- these are the outputs of the run
-  handing : (outputs : List Output) → MakesOutputs s name.task (file_at hold.can.files) outputs → IsHanding at first old notes name (with_outputs old outputs) names
+  handing : (outputs : List Output) → task_outputs s name.task (file_at hold.can.files) ≡ Some outputs → IsHanding at first old notes name (with_outputs old outputs) names
   handing outputs makes =
       let q = notes.plan.queue in
-      let same : hold.can.run.0.outputs ≡ outputs = same_Some hold.can.run.0.outputs outputs (sym made.are ∙ makes.are) in
+      let same : hold.can.run.0.outputs ≡ outputs = same_Some hold.can.run.0.outputs outputs (sym made ∙ makes) in
       record {
         all = hold.all;
         held = hold.held;
@@ -185,7 +186,7 @@ module _ (notes : Notes) (name : QueueName) (given : List Input) (names : List Q
   ran_by (Makes outputs) m comes acts =
       let ran = ran_known notes name given names old fit f known s is outputs comes in
       handing_goes notes name names at first old new a files sound kept outputs m ran.fit ran.known (handing outputs (comes (file_at hold.can.files) holds_there)) acts
-  ran_by (Refuses cause) m comes acts = absurd (no_cause cause (task_refusal s name.task (file_at hold.can.files)) made.fine (comes (file_at hold.can.files) holds_there))
+  ran_by (Refuses cause) m comes acts = absurd (no_cause cause (task_refusal s name.task (file_at hold.can.files)) (made-fine s name.task (file_at hold.can.files) hold.can.run.0.outputs made).0 (comes (file_at hold.can.files) holds_there))
 
 -- A worker by itself that runs a task goes on: it does not refuse.
 pub running_goes : (notes : Notes) (name : QueueName) (given : List Input) (names : List QueueName) → StaysGoing (stands notes (Running name given names))

@@ -1,20 +1,19 @@
 -- Nothing keeps a worker by itself from finishing all tasks of its queue: this project's own.
-use Rattle.std.specs.Prelude.{◌≡◌, ◌≤◌, ◌<◌, ℕ, List, [], ◌∷◌, All, length, Option, None, Some, Contains, IsSome, option_and_then}
+use Rattle.std.specs.Prelude.{◌≡◌, ◌≤◌, ◌<◌, ℕ, List, [], ◌∷◌, All, length, Option, None, Some, Contains, IsSome, option_and_then, option_map}
 use Rattle.std.specs.Cmp.Lexicographic.{slice_cmp}
-use Rattle.std.specs.FinMap as map
 use Rattle.std.specs.List.Sorted.{IsStrictlySortedBy}
 use Rattle.std.specs.Ordering.{nat_cmp}
 use Rattle.ig_space.specs.declared.task_id.TaskId.{TaskId}
 use Rattle.ig_defs.specs.declared.queue_name.QueueName.{QueueName}
-use Rattle.ig_defs.specs.Files.{Files, file_at}
-use Rattle.ig_cutout.specs.declared.types.Output.{Output}
+use Rattle.ig_defs.specs.Files.{Files}
 use Rattle.ig_record.specs.declared.stage.Stage.{Stage}
 use Rattle.ig_record.specs.Reading.{record_in}
+use Rattle.ig_meaning.specs.Jobs.{Job, job_of, sequential}
+use Rattle.ig_meaning.specs.Wants.{with_first}
 use Rattle.ig_rule.specs.Facts.{Facts}
 use Rattle.ig_rule.specs.QueueFiles.{Dead, Queued, Record, queue_of}
 use Rattle.ig_rule.specs.Stages.{Clear, Sealed, stages_in}
 use Rattle.ig_queue.specs.Candidates.{rank}
-use Rattle.ig_task.specs.Answers.{MakesOutputs}
 use Rattle.ig_task.specs.Facts.{stage_reader}
 use Rattle.ig_worker.specs.declared.plan.Plan.{Plan}
 
@@ -23,26 +22,14 @@ abbrev pub stage_at : List ℕ → Files → ℕ → Option Stage
 stage_at q files n = option_and_then (record_in n) (queue_of q files (Record n))
 
 -- ---- tasks, one after the other
--- the files once an output is put, or is taken away
-abbrev pub with_text : Files → List ℕ → Option (List ℕ) → Files
-with_text files path (Some bytes) = map.insert files path bytes
-with_text files path None = map.remove files path
+-- the tasks of these names in order, where the stage of each is recorded
+abbrev pub jobs_named : (ℕ → Option Stage) → List QueueName → Option (List Job)
+jobs_named stages [] = Some []
+jobs_named stages (name ∷ names) = with_first (option_map (λ s. job_of s name.task) (stages name.stage)) (jobs_named stages names)
 
-abbrev pub with_outputs : Files → List Output → Files
-with_outputs files [] = files
-with_outputs files (output ∷ outputs) = with_outputs (with_text files output.path output.text) outputs
-
--- The task of the name does not refuse over these files.
-pub record Runs (stages : ℕ → Option Stage) (files : Files) (name : QueueName) : Type 0 where
-  pub stage : Stage
-  pub is : stages name.stage ≡ Some stage
-  pub outputs : List Output
-  pub makes : MakesOutputs stage name.task (file_at files) outputs
-
--- None of the tasks of these names refuses, each over the files as they are when those before it are done.
-abbrev pub RunInOrder : (ℕ → Option Stage) → Files → List QueueName → Type 0
-RunInOrder stages files [] = Unit {0}
-RunInOrder stages files (name ∷ names) = (run : Runs stages files name) × RunInOrder stages (with_outputs files run.outputs) names
+-- the files that their sequential run leaves; undefined where one refuses
+abbrev pub sequential_named : (ℕ → Option Stage) → List QueueName → Files → Option Files
+sequential_named stages names files = option_and_then (λ jobs. sequential jobs files) (jobs_named stages names)
 
 -- ---- the tasks of a queue
 -- The name stands in the queue, and is that of a task of a stage that is not under removal.
@@ -56,7 +43,7 @@ abbrev pub AreInOrder : List QueueName → Type 0
 AreInOrder names = IsStrictlySortedBy (λ a b. slice_cmp nat_cmp (rank a) (rank b)) names
 
 -- Every stage is sealed, and there is no dead letter. Each of the names ahead may be leased from this second on, was leased less
--- often than the plan allows, and there are no more of them than it has turns. Their tasks can be run in order.
+-- often than the plan allows, and there are no more of them than it has turns. The sequential run of their tasks is defined.
 pub record CanFinish (plan : Plan) (at : ℕ) (files : Files) : Type 0 where
   pub sealed : (n : ℕ) (t : Facts) → stages_in stage_reader plan.queue files n ≡ Some t → Sealed (queue_of plan.queue files) n
   pub no_letters : (id : TaskId) → queue_of plan.queue files (Dead id) ≡ None
@@ -67,4 +54,4 @@ pub record CanFinish (plan : Plan) (at : ℕ) (files : Files) : Type 0 where
   pub due : All (λ name. name.visible ≤ at) names
   pub tries : All (λ name. name.attempt < plan.tries) names
   pub turns : length names ≤ plan.turns
-  pub run : RunInOrder (stage_at plan.queue files) files names
+  pub run : IsSome (sequential_named (stage_at plan.queue files) names files)

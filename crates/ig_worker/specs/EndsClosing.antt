@@ -1,5 +1,5 @@
 -- From the last listing of the stages to the end.
-use Rattle.std.specs.Prelude.{◌≡◌, ◌⊎◌, ◌<◌, ◌^◌, ℕ, true, List, [], ◌∷◌, Option, None, Some, Contains, codes, refl}
+use Rattle.std.specs.Prelude.{◌≡◌, ◌⊎◌, ◌<◌, ◌^◌, ℕ, true, List, [], ◌∷◌, Option, None, Some, Contains, refl}
 use Rattle.std.proofs.Common.{inl, inr, ap, subst}
 use Rattle.ig_defs.specs.Log.{Log, files_of}
 use Rattle.ig_defs.specs.QueueNames.{stage_file}
@@ -7,6 +7,7 @@ use Rattle.ig_defs.specs.TurnLaws.{listed_in, prefix_itself, prefix_of, prefix_t
 use Rattle.ig_defs.specs.Turns.{IsPrefix, Listed}
 use Rattle.ig_meaning.specs.QueueMaking.{record_path, stages_dir}
 use Rattle.ig_record.specs.declared.stage.Stage.{Stage}
+use Rattle.ig_record.specs.Answers.{record_fault}
 use Rattle.ig_record.specs.Reading.{record_in}
 use Rattle.ig_rule.specs.Facts.{Facts}
 use Rattle.ig_rule.specs.Prefixes.{legal_sound}
@@ -68,14 +69,14 @@ module _ (role : Role) (plan : Plan) (to : ℕ) (small : to < 10 ^ 10) (next : S
 
   -- ---- a record is read
   module _ (from : ℕ) (notes : Notes) (n : ℕ) (unread : List ℕ) (log : Log) (ms : List Move)
-      (rest : (s : Stage) → Stays plan from (learnt_by notes n unread Count (Some s)) log → GoesOn from (learnt_by notes n unread Count (Some s)) log ms → Ends ms) where
-    by_record : (o : Option Stage) → Stays plan from (learnt_by notes n unread Count o) log → GoesOn from (learnt_by notes n unread Count o) log ms → Ends ms
-    by_record None stays c = broken_ends from notes (BadRecord (record_path notes.plan.queue n) (codes "$")) log ms c
-    by_record (Some s) stays c = rest s stays c
+      (rest : (text : List ℕ) (s : Stage) → Stays plan from (learnt_by notes n unread Count text (Some s)) log → GoesOn from (learnt_by notes n unread Count text (Some s)) log ms → Ends ms) where
+    by_record : (text : List ℕ) (o : Option Stage) → Stays plan from (learnt_by notes n unread Count text o) log → GoesOn from (learnt_by notes n unread Count text o) log ms → Ends ms
+    by_record text None stays c = broken_ends from notes (BadRecord (record_path notes.plan.queue n) (record_fault n text)) log ms c
+    by_record text (Some s) stays c = rest text s stays c
 
     by_found : (found : Option (List ℕ)) → Stays plan from (learnt notes n unread Count found) log → GoesOn from (learnt notes n unread Count found) log ms → Ends ms
     by_found None stays c = broken_ends from notes (Absent (record_path notes.plan.queue n)) log ms c
-    by_found (Some text) stays c = by_record (record_in n text) stays c
+    by_found (Some text) stays c = by_record text (record_in n text) stays c
 
   learns : (ms : List Move) (from : ℕ) (notes : Notes) (unread : List ℕ) (log : Log) → (l : Listing (AllowsFor role plan) first mid whole (stages_dir plan.queue)) → IsPrefix l.to log → Stays plan from (stands notes (learning notes.known unread Count)) log → Lasts plan.queue (files_of mid) (files_of log)
       → ((n : ℕ) (t : Facts) → IsRecorded plan mid n t → IsLearnt notes.known unread n) → GoesOn from (stands notes (learning notes.known unread Count)) log ms → Ends ms
@@ -89,7 +90,7 @@ module _ (role : Role) (plan : Plan) (to : ℕ) (small : to < 10 ^ 10) (next : S
       let lasts_on = lasts_then plan.queue (files_of mid) (files_of log) (files_of c.1) lasts (step_lasts role plan from c.0 place log c.1 m stays later c.3) in
       one_more role plan first mid m ms next new whole (ap (λ (v : Move). v.said) leads.1)
       (by_found c.0 notes n unread c.1 ms
-      (λ s stays' c'. learns ms c.0 (noted notes n s) unread c.1 l (prefix_then since (prefix_of c.3.answered.acted)) stays' lasts_on (λ k t is. learnt_more k n s notes.known unread (all k t is)) c')
+      (λ text s stays' c'. learns ms c.0 (noted notes n s) unread c.1 l (prefix_then since (prefix_of c.3.answered.acted)) stays' lasts_on (λ k t is. learnt_more k n s notes.known unread (all k t is)) c')
       leads.0 (subst (λ s. Stays plan c.0 s c.1) there later) (subst (λ s. GoesOn c.0 s c.1 ms) there c.4))
 
   -- ---- the stages are listed

@@ -110,7 +110,7 @@ module _ (from to : ℕ) (notes : Notes) (fit : AreFitNotes notes) (later : note
       subst (λ (v : Move). Goes v.next) (sym leads.1)
       (rests (learning notes.known (unknown_listed notes.known leads.0) goal) (learning_fits notes (unknown_listed notes.known leads.0) goal (few_listed notes.known leads.0) ready))
 
-  learnt_stage : (n : ℕ) (unread : List ℕ) (goal : Then) (text : List ℕ) → n < 10 ^ 4 → All IsFew unread → IsFitThen notes.at goal → (o : Option Stage) → record_in n text ≡ o → Goes (learnt_by notes n unread goal o)
+  learnt_stage : (n : ℕ) (unread : List ℕ) (goal : Then) (text : List ℕ) → n < 10 ^ 4 → All IsFew unread → IsFitThen notes.at goal → (o : Option Stage) → record_in n text ≡ o → Goes (learnt_by notes n unread goal text o)
   learnt_stage n unread goal text few rest ready None reads = rests _ tt
   learnt_stage n unread goal text few rest ready (Some s) reads = record {
     of_plan = refl;

@@ -29,7 +29,7 @@ use Rattle.ig_defs.specs.Turns.{Listed}
 use Rattle.ig_defs.specs.TurnLaws.{files_then}
 use Rattle.ig_task.specs.Facts.{stage_reader}
 use Rattle.ig_task.specs.Kinds.{kinds}
-use Rattle.ig_task.specs.Lists.{first_of-from}
+use Rattle.ig_meaning.specs.Lists.{first_of-from}
 use Rattle.ig_worker.specs.EndsLasts.{lasts_others}
 use Rattle.ig_worker.specs.KeepsLists.{first_in, in_cases, later_in, none_in}
 use Rattle.ig_worker.specs.Stages.{Known, is_last, stage_in, unknown_after, unknown_listed, unknown_named, with_unknown}

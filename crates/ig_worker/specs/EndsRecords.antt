@@ -192,7 +192,7 @@ module _ (role : Role) (from to : ℕ) (notes : Notes) (old new : Log) (sound : 
       let first = still n (first_in n unread) in
       let r = record_of q now n first.0 first.1 in
       let found : leads.0 ≡ Some r.text = takes.1 ∙ r.stands_there in
-      let next : learnt notes n unread goal leads.0 ≡ learnt_by notes n unread goal (Some r.stage) = ap (learnt notes n unread goal) found ∙ ap (learnt_by notes n unread goal) r.reads in
+      let next : learnt notes n unread goal leads.0 ≡ learnt_by notes n unread goal r.text (Some r.stage) = ap (learnt notes n unread goal) found ∙ ap (learnt_by notes n unread goal r.text) r.reads in
       let place = learning (with_stage n r.stage notes.known) unread goal in
       let same : files_of new ≡ now = files_then c.answered.acted ∙ ap (after now) takes.0 in
       subst (λ (v : Move). Goes v.next.phase) (sym leads.1) (subst (λ (s : State). Goes s.phase) (sym next) (subst (λ files. IsReadable q files place) (sym same)

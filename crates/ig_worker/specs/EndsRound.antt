@@ -62,14 +62,14 @@ module _ (role : Role) (plan : Plan) (to : ℕ) (place : State) (mid : Log) (clo
 
   -- a record is read
   module _ (from : ℕ) (notes : Notes) (n : ℕ) (unread : List ℕ) (log : Log) (ms : List Move)
-      (rest : (s : Stage) → AreAll is_round (learnt_by notes n unread (Try names) (Some s)) ms → Goes from (learnt_by notes n unread (Try names) (Some s)) log ms → Ends) where
-    by_record : (o : Option Stage) → AreAll is_round (learnt_by notes n unread (Try names) o) ms → Goes from (learnt_by notes n unread (Try names) o) log ms → Ends
-    by_record None round c = no_round (learnt_by notes n unread (Try names) None) ms refl round
-    by_record (Some s) round c = rest s round c
+      (rest : (text : List ℕ) (s : Stage) → AreAll is_round (learnt_by notes n unread (Try names) text (Some s)) ms → Goes from (learnt_by notes n unread (Try names) text (Some s)) log ms → Ends) where
+    by_record : (text : List ℕ) (o : Option Stage) → AreAll is_round (learnt_by notes n unread (Try names) text o) ms → Goes from (learnt_by notes n unread (Try names) text o) log ms → Ends
+    by_record text None round c = no_round (learnt_by notes n unread (Try names) text None) ms refl round
+    by_record text (Some s) round c = rest text s round c
 
     by_found : (found : Option (List ℕ)) → AreAll is_round (learnt notes n unread (Try names) found) ms → Goes from (learnt notes n unread (Try names) found) log ms → Ends
     by_found None round c = no_round (learnt notes n unread (Try names) None) ms refl round
-    by_found (Some text) round c = by_record (record_in n text) round c
+    by_found (Some text) round c = by_record text (record_in n text) round c
 
   learns : (ms : List Move) (from : ℕ) (notes : Notes) (unread : List ℕ) (log : Log) → ((name : QueueName) → Contains names name → IsLearnt notes.known unread name.stage)
       → AreAll is_round (stands notes (learning notes.known unread (Try names))) ms → Goes from (stands notes (learning notes.known unread (Try names))) log ms → Ends
@@ -80,7 +80,7 @@ module _ (role : Role) (plan : Plan) (to : ℕ) (place : State) (mid : Log) (clo
       let leads = c.3.leads in
       let there : m.next ≡ learnt notes n unread (Try names) leads.0 = ap (λ (v : Move). v.next) leads.1 in
       by_found c.0 notes n unread c.1 ms
-      (λ s round' c'. learns ms c.0 (noted notes n s) unread c.1 (λ name among. learnt_more name.stage n s notes.known unread (all name among)) round' c')
+      (λ text s round' c'. learns ms c.0 (noted notes n s) unread c.1 (λ name among. learnt_more name.stage n s notes.known unread (all name among)) round' c')
       leads.0 (subst (λ s. AreAll is_round s ms) there round.1) (subst (λ s. Goes c.0 s c.1 ms) there c.4)
 
 -- ---- the listing

@@ -36,13 +36,13 @@ count_late : (known : Known) (unread : List ℕ) → is_late (learning known unr
 count_late known [] = refl
 count_late known (n ∷ unread) = refl
 
-learnt_by_late : (notes : Notes) (n : ℕ) (unread : List ℕ) (o : Option Stage) → is_late (learnt_by notes n unread Count o).phase ≡ true
-learnt_by_late notes n unread None = refl
-learnt_by_late notes n unread (Some s) = count_late _ unread
+learnt_by_late : (notes : Notes) (n : ℕ) (unread text : List ℕ) (o : Option Stage) → is_late (learnt_by notes n unread Count text o).phase ≡ true
+learnt_by_late notes n unread text None = refl
+learnt_by_late notes n unread text (Some s) = count_late _ unread
 
 learnt_late : (notes : Notes) (n : ℕ) (unread : List ℕ) (found : Option (List ℕ)) → is_late (learnt notes n unread Count found).phase ≡ true
 learnt_late notes n unread None = refl
-learnt_late notes n unread (Some text) = learnt_by_late notes n unread (record_in n text)
+learnt_late notes n unread (Some text) = learnt_by_late notes n unread text (record_in n text)
 
 counted_late : (known : Known) (letters : List TaskId) (given : List (List ℕ)) → is_late (counted known letters given) ≡ true
 counted_late known [] given = refl

@@ -55,13 +55,13 @@ module _ (P : Phase → Bool) (apart : IsApart P) where
       let more : List Input = given ++ record { path = path; found = Some bytes } ∷ [] in
       fetching_by name paths more names (length more == length paths)
 
-  learnt_by_apart : (notes : Notes) (n : ℕ) (unread : List ℕ) (goal : Then) → ((known : Known) → P (learning known unread goal) ≡ false) → (o : Option Stage) → P (learnt_by notes n unread goal o).phase ≡ false
-  learnt_by_apart notes n unread goal other None = apart.breaks _
-  learnt_by_apart notes n unread goal other (Some s) = other (with_stage n s notes.known)
+  learnt_by_apart : (notes : Notes) (n : ℕ) (unread : List ℕ) (goal : Then) → ((known : Known) → P (learning known unread goal) ≡ false) → (text : List ℕ) (o : Option Stage) → P (learnt_by notes n unread goal text o).phase ≡ false
+  learnt_by_apart notes n unread goal other text None = apart.breaks _
+  learnt_by_apart notes n unread goal other text (Some s) = other (with_stage n s notes.known)
 
   learnt_apart : (notes : Notes) (n : ℕ) (unread : List ℕ) (goal : Then) → ((known : Known) → P (learning known unread goal) ≡ false) → (found : Option (List ℕ)) → P (learnt notes n unread goal found).phase ≡ false
   learnt_apart notes n unread goal other None = apart.breaks _
-  learnt_apart notes n unread goal other (Some text) = learnt_by_apart notes n unread goal other (record_in n text)
+  learnt_apart notes n unread goal other (Some text) = learnt_by_apart notes n unread goal other text (record_in n text)
 
   tries_by_apart : (from to : ℕ) (notes : Notes) (name : QueueName) (names : List QueueName) (m : Move) (b : Bool) → TriesBy b from to notes name names m → OnAt m
   tries_by_apart from to notes name names m true h = ap (λ (v : Move). P v.next.phase) h.1 ∙ try_apart names

@@ -15,7 +15,7 @@ use Rattle.ig_defs.specs.QueueNameLaws.{IsName-fits}
 use Rattle.ig_meaning.specs.QueueMaking.{stage_named}
 use Rattle.ig_queue.specs.Candidates.{IsCandidate}
 use Rattle.ig_record.specs.declared.stage.Stage.{Stage}
-use Rattle.ig_task.specs.Lists.{first_of-from}
+use Rattle.ig_meaning.specs.Lists.{first_of-from}
 use Rattle.ig_worker.specs.Fit.{AreStages, IsStage, number_of}
 use Rattle.ig_worker.specs.Stages.{Known, is_last, stage_in, unknown_after, unknown_listed, with_stage, with_unknown}
 use Rattle.ig_worker.specs.Standing.{IsKnown}

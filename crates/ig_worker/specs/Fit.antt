@@ -11,7 +11,7 @@ use Rattle.ig_cutout.specs.Inputs.{paths_of as input_paths}
 use Rattle.ig_record.specs.declared.stage.Stage.{Stage}
 use Rattle.ig_record.specs.Sound.{is_sound}
 use Rattle.ig_record.specs.Columns.{inputs_of, paths_of, removed_dir}
-use Rattle.ig_task.specs.Outputs.{path_of}
+use Rattle.ig_task.specs.Wanted.{path_of}
 use Rattle.ig_worker.specs.declared.notes.Notes.{Notes}
 use Rattle.ig_worker.specs.declared.phase.Phase.{Phase}
 use Rattle.ig_worker.specs.declared.phase.Phase.TheVariants.{Starting, Learning, Asking, Trying, Fetching, Running, Finishing, Closing, ListingDead, ListingDone, Telling, Over, Broken}

@@ -10,7 +10,7 @@ use Rattle.ig_layer.specs.Layer.{Reading}
 use Rattle.ig_cutout.specs.declared.types.Input.{Input}
 use Rattle.ig_cutout.specs.declared.types.Output.{Output}
 use Rattle.ig_cutout.specs.Inputs.{HoldsAll}
-use Rattle.ig_task.specs.Outputs.{path_of}
+use Rattle.ig_task.specs.Wanted.{path_of}
 use Rattle.ig_worker.specs.Fit.{IsFound}
 use Rattle.ig_worker.specs.KeepsLists.{first_in, in_cases, later_in, none_in}
 use Rattle.ig_worker.specs.Knows.{finished_paths, found_files, made_files, with_file}

@@ -14,9 +14,9 @@ use Rattle.ig_record.specs.SoundStages.{IsSound, IsSound-from, sound-kind, tasks
 use Rattle.ig_record.specs.SoundRows.{IsSoundKind, is_remove, is_xfer}
 use Rattle.ig_record.specs.Columns.{inputs_by, inputs_of, removed_by, removed_dir}
 use Rattle.ig_record.specs.Stage.{task_box, task_count, task_grid}
-use Rattle.ig_task.specs.ChunkPlaces.{is_chunk_of-is}
-use Rattle.ig_task.specs.Facts.{is_chunk_of}
-use Rattle.ig_task.specs.Lists.{listed-from}
+use Rattle.ig_meaning.specs.ChunkPlaces.{is_chunk_of-is}
+use Rattle.ig_meaning.specs.Wants.{is_chunk_of}
+use Rattle.ig_meaning.specs.Lists.{listed-from}
 use Rattle.ig_task.specs.OwnedPaths.{copy-makes}
 use Rattle.ig_worker.specs.KeepsLists.{none_in}
 

@@ -34,7 +34,7 @@ use Rattle.ig_rule.specs.SoundNames.{has_record}
 use Rattle.ig_rule.specs.Stages.{Records, stages_in}
 use Rattle.ig_task.specs.Facts.{facts_of, stage_reader}
 use Rattle.ig_task.specs.Kinds.{kinds}
-use Rattle.ig_task.specs.Lists.{first_of-is}
+use Rattle.ig_meaning.specs.Lists.{first_of-is}
 use Rattle.ig_worker.specs.KeepsKnown.{KnowsStages, kept}
 use Rattle.ig_worker.specs.KeepsLists.{first_in, in_cases, later_in, map_in, none_in, stage_in-among}
 use Rattle.ig_worker.specs.Knows.{kept_of}

@@ -1,9 +1,10 @@
 -- What a worker knows once it has read a record.
-use Rattle.std.specs.Prelude.{◌≡◌, ◌⊎◌, ◌<◌, ◌^◌, ℕ, true, List, ◌∷◌, map, Option, None, Some, Contains, option_and_then, option_map, codes, refl}
+use Rattle.std.specs.Prelude.{◌≡◌, ◌⊎◌, ◌<◌, ◌^◌, ℕ, true, List, ◌∷◌, map, Option, None, Some, Contains, option_and_then, option_map, refl}
 use Rattle.std.proofs.Common.{inl, inr, ap, sym, subst, ◌∙◌}
 use Rattle.std.proofs.lemmas.Option.{same_Some}
 use Rattle.ig_defs.specs.Files.{Files, file_at}
 use Rattle.ig_record.specs.declared.stage.Stage.{Stage}
+use Rattle.ig_record.specs.Answers.{record_fault}
 use Rattle.ig_record.specs.Reading.{record_in}
 use Rattle.ig_meaning.specs.QueueMaking.{record_path}
 use Rattle.ig_rule.specs.Effects.{record_fit}
@@ -68,8 +69,8 @@ module _ (records : Records) (known : Known) (n : ℕ) (s : Stage) (unread : Lis
 
 -- ---- after the read
 learnt_stage : (notes : Notes) (n : ℕ) (unread : List ℕ) (goal : Then) (files : Files) (text : List ℕ) → n < 10 ^ 4 → Some text ≡ file_at files (record_path notes.plan.queue n)
-    → Knows (stands notes (Learning (n ∷ unread) goal)) files → (o : Option Stage) → record_in n text ≡ o → Knows (learnt_by notes n unread goal o) files
-learnt_stage notes n unread goal files text few found h None reads = known_stopped (stages_in stage_reader notes.plan.queue files) files notes.known (Learning (n ∷ unread) goal) (BadRecord (record_path notes.plan.queue n) (codes "$")) h
+    → Knows (stands notes (Learning (n ∷ unread) goal)) files → (o : Option Stage) → record_in n text ≡ o → Knows (learnt_by notes n unread goal text o) files
+learnt_stage notes n unread goal files text few found h None reads = known_stopped (stages_in stage_reader notes.plan.queue files) files notes.known (Learning (n ∷ unread) goal) (BadRecord (record_path notes.plan.queue n) (record_fault n text)) h
 learnt_stage notes n unread goal files text few found h (Some s) reads =
     let records = stages_in stage_reader notes.plan.queue files in
     known_learning records files (with_stage n s notes.known) unread goal

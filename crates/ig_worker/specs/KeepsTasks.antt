@@ -13,12 +13,12 @@ use Rattle.ig_cutout.specs.declared.types.Output.{Output}
 use Rattle.ig_record.specs.declared.stage.Stage.{Stage}
 use Rattle.ig_record.specs.Sound.{is_sound}
 use Rattle.ig_record.specs.Columns.{inputs_of, paths_of, removed_dir}
+use Rattle.ig_meaning.specs.Wants.{is_chunk_of}
 use Rattle.ig_rule.specs.Known.{IsKnownLease, IsOutput}
 use Rattle.ig_rule.specs.Stages.{Records, stages_in}
-use Rattle.ig_task.specs.Facts.{facts_of, is_chunk_of, stage_reader}
-use Rattle.ig_task.specs.Kinds.{outputs-are_wanted}
-use Rattle.ig_task.specs.Outputs.{path_of}
-use Rattle.ig_task.specs.Wanted.{AreWanted, HasWantedText}
+use Rattle.ig_task.specs.Facts.{facts_of, stage_reader}
+use Rattle.ig_task.specs.MadeOutputs.{outputs-are_wanted}
+use Rattle.ig_task.specs.Wanted.{AreWanted, HasWantedText, path_of}
 use Rattle.ig_worker.specs.declared.notes.Notes.{Notes}
 use Rattle.ig_worker.specs.declared.phase.Phase.TheVariants.{Fetching, Finishing, Running}
 use Rattle.ig_worker.specs.Fit.{AreFitNotes, HasText, IsFetching, IsFinishing, IsRunning, IsStage}
@@ -124,7 +124,7 @@ ran_known notes name given names files fit_notes fit h s e outputs comes =
     let records = stages_in stage_reader notes.plan.queue files in
     let old = known_one records files (fetched_lease name given) (stage_in notes.known name.stage) s e h.leases in
     let makes = comes (file_at files) (found-holds (file_at files) given fit.found (λ file among. (old.sources file among).1)) in
-    let wanted = outputs-are_wanted s (known_sound notes fit_notes name.stage s e) name.task old.below (file_at files) outputs makes.are in
+    let wanted = outputs-are_wanted s (known_sound notes fit_notes name.stage s e) name.task old.below (file_at files) outputs makes in
     record {
       fit = record {
         stage = s;

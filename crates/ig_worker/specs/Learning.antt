@@ -1,9 +1,10 @@
 -- What the read of a stage's record comes to.
-use Rattle.std.specs.Prelude.{◌≡◌, ◌⊎◌, ℕ, Bool, List, Option, None, Some, Result, Ok, Err, codes}
+use Rattle.std.specs.Prelude.{◌≡◌, ◌⊎◌, ℕ, Bool, List, Option, None, Some, Result, Ok, Err}
 use Rattle.ig_defs.specs.declared.step.Act.{Act}
 use Rattle.ig_defs.specs.Files.{Files}
 use Rattle.ig_defs.specs.Log.{Log}
 use Rattle.ig_record.specs.declared.stage.Stage.{Stage}
+use Rattle.ig_record.specs.Answers.{record_fault}
 use Rattle.ig_record.specs.Reading.{record_in}
 use Rattle.ig_meaning.specs.QueueMaking.{record_path}
 use Rattle.ig_defs.specs.Turns.{Idled}
@@ -14,7 +15,7 @@ use Rattle.ig_defs.specs.Answers.{Answer, Found, IsAnswered, Reads}
 -- the stage that the text of a record is, or that it is none
 abbrev pub GivesStage : List ℕ → ℕ → List ℕ → Result Stage WorkerError → Type 0
 GivesStage path n text (Ok s) = record_in n text ≡ Some s
-GivesStage path n text (Err (BadRecord at member)) = (at ≡ path) × (member ≡ codes "$") × (record_in n text ≡ None)
+GivesStage path n text (Err (BadRecord at member)) = (at ≡ path) × (member ≡ record_fault n text) × (record_in n text ≡ None)
 GivesStage path n text (Err Memory) = Unit {0}
 GivesStage path n text (Err error) = ⊥
 

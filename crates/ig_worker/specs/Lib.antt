@@ -56,6 +56,7 @@ pub mod Ends
 -- a worker by itself
 pub mod CanFinish
 pub mod AloneGoing
+pub mod AloneJobs
 pub mod AloneCalls
 pub mod AloneNames
 pub mod AloneListings

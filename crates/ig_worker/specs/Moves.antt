@@ -12,10 +12,9 @@ use Rattle.ig_cutout.specs.Inputs.{HoldsAll, cause_of}
 use Rattle.ig_record.specs.declared.stage.Stage.{Stage}
 use Rattle.ig_meaning.specs.Refusal as meaning
 use Rattle.ig_meaning.specs.QueueMaking.{record_path, stages_dir}
-use Rattle.ig_meaning.specs.Stage.{task_refusal}
+use Rattle.ig_meaning.specs.Task.{task_outputs, task_refusal}
 use Rattle.ig_queue.specs.Candidates.{AreCandidates}
 use Rattle.ig_queue.specs.Moves.{leased_name}
-use Rattle.ig_task.specs.Answers.{MakesOutputs}
 use Rattle.ig_worker.specs.declared.notes.Notes.{Notes}
 use Rattle.ig_worker.specs.declared.phase.Phase.{Phase}
 use Rattle.ig_worker.specs.declared.phase.Phase.TheVariants.{Starting, Learning, Asking, Trying, Fetching, Running, Finishing, Closing, ListingDead, ListingDone, Telling, Over, Broken}
@@ -124,7 +123,7 @@ IsCause (why.Malformed path cause) r = r ≡ Some (meaning.Malformed path (cause
 IsCause (why.TooManyParts count) r = r ≡ Some (meaning.TooManyParts count)
 
 abbrev pub ComesOf : Stage → ℕ → Reading → Outcome → Type 0
-ComesOf s k files (Makes outputs) = MakesOutputs s k files outputs
+ComesOf s k files (Makes outputs) = task_outputs s k files ≡ Some outputs
 ComesOf s k files (Refuses cause) = IsCause cause (task_refusal s k files)
 
 -- this comes of task k over these inputs, in whatever files they stand

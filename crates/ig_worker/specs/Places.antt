@@ -1,9 +1,10 @@
 -- Where a worker stands, and where it stands next.
-use Rattle.std.specs.Prelude.{ℕ, zero, suc, ◌+◌, ◌==◌, Bool, if◌then◌else◌, true, false, List, [], ◌∷◌, ◌++◌, length, Option, None, Some, codes}
+use Rattle.std.specs.Prelude.{ℕ, zero, suc, ◌+◌, ◌==◌, Bool, if◌then◌else◌, true, false, List, [], ◌∷◌, ◌++◌, length, Option, None, Some}
 use Rattle.ig_space.specs.declared.task_id.TaskId.{TaskId}
 use Rattle.ig_defs.specs.declared.queue_name.QueueName.{QueueName}
 use Rattle.ig_cutout.specs.declared.types.Input.{Input}
 use Rattle.ig_record.specs.declared.stage.Stage.{Stage}
+use Rattle.ig_record.specs.Answers.{record_fault}
 use Rattle.ig_record.specs.Reading.{record_in}
 use Rattle.ig_record.specs.Columns.{inputs_of}
 use Rattle.ig_meaning.specs.QueueMaking.{record_path}
@@ -55,14 +56,14 @@ learning known [] after = learnt_all known after
 learning known (n ∷ unread) after = Learning (n ∷ unread) after
 
 -- by what the text of a record says
-abbrev pub learnt_by : Notes → ℕ → List ℕ → Then → Option Stage → State
-learnt_by notes n unread after None = stands notes (Broken (BadRecord (record_path notes.plan.queue n) (codes "$")))
-learnt_by notes n unread after (Some s) = stands (noted notes n s) (learning (with_stage n s notes.known) unread after)
+abbrev pub learnt_by : Notes → ℕ → List ℕ → Then → List ℕ → Option Stage → State
+learnt_by notes n unread after text None = stands notes (Broken (BadRecord (record_path notes.plan.queue n) (record_fault n text)))
+learnt_by notes n unread after text (Some s) = stands (noted notes n s) (learning (with_stage n s notes.known) unread after)
 
 -- by what was found of a record
 abbrev pub learnt : Notes → ℕ → List ℕ → Then → Option (List ℕ) → State
 learnt notes n unread after None = stands notes (Broken (Absent (record_path notes.plan.queue n)))
-learnt notes n unread after (Some text) = learnt_by notes n unread after (record_in n text)
+learnt notes n unread after (Some text) = learnt_by notes n unread after text (record_in n text)
 
 -- after a try
 abbrev pub next_try : List QueueName → Phase
