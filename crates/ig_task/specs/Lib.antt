@@ -14,3 +14,4 @@ pub mod MadeOutputs
 pub mod Runs
 pub mod OwnInputs
 pub mod PutOutputs
+pub mod WholeCopies

@@ -1,7 +1,9 @@
 //! The laws of the kinds of stage. Each function has no code: its contract is a law.
-ghost use Rattle.std.specs.Prelude.{◌≡◌, ◌<◌, ℕ, List, Some, true};
+ghost use Rattle.std.specs.Prelude.{◌≡◌, ◌<◌, ℕ, List, [], ◌∷◌, Some, true};
+ghost use Rattle.ig_space.specs.declared.place.Place.{Place};
 ghost use Rattle.ig_defs.specs.Files.{Files, file_at};
 ghost use Rattle.ig_layer.specs.Layer.{Reading};
+ghost use Rattle.ig_record.specs.declared.stage.Kind.TheVariants.{Xfer};
 ghost use Rattle.ig_record.specs.declared.stage.Stage.{Stage};
 ghost use Rattle.ig_record.specs.Sound.{is_sound};
 ghost use Rattle.ig_record.specs.Stage.{task_count};
@@ -13,6 +15,7 @@ ghost use Rattle.ig_cutout.specs.declared.types.Output.{Output};
 ghost use Rattle.ig_rule.specs.Facts.{KindLaws};
 ghost use Rattle.ig_task.specs.Facts.{given_to, stage_reader};
 ghost use Rattle.ig_task.specs.Wanted.{AreWanted};
+ghost use Rattle.ig_task.specs.WholeCopies.{WritesChunks};
 
 /// Each kind of stage keeps what the laws of the rule rest on.
 pub fn kinds_keep_their_laws()
@@ -29,4 +32,10 @@ pub fn outputs_are_wanted()
 /// exactly what is wanted of the whole volume.
 pub fn sequential_is_wanted()
     ensures { (s : Stage) → is_sound s ≡ true → IsElsewhere s → (files after : Files) → sequential (jobs_of s) (with_info s.info files) ≡ Some after → (outputs : List Output) × (wanted_outputs s (file_at files) ≡ Some outputs) × (with_outputs (with_info s.info files) outputs ≡ after) }
+{}
+
+/// The tasks of a copy write all chunks of the new scale, and no other files. So what is wanted at their paths is the whole new
+/// layer, whatever the shape.
+pub fn copies_write_all_chunks()
+    ensures { (s : Stage) → is_sound s ≡ true → s.kind ≡ Xfer → (dest : Place) → s.dests ≡ dest ∷ [] → WritesChunks s dest }
 {}
