@@ -6,7 +6,7 @@ use Rattle.ig_defs.specs.Log.{Log, files_of}
 use Rattle.ig_defs.specs.Own.{moments_since, put_all}
 use Rattle.ig_meaning.specs.Call.{IsReady}
 use Rattle.ig_meaning.specs.Ending.{Finished, Refuses, StoreFailed, NoMemory}
-use Rattle.ig_meaning.specs.Making.{Planned, making_of_copy}
+use Rattle.ig_meaning.specs.Making.{Planned, making_of_request}
 use Rattle.ig_meaning.specs.Plan.{stage_of_command}
 use Rattle.ig_meaning.specs.Refusal.{Refusal}
 use Rattle.ig_record.specs.declared.stage.Stage.{Stage}
@@ -48,7 +48,7 @@ never_refuses words old new result r ready (not_read is same) e = let no_way : E
 never_refuses words old new result r ready (not_made request error is asked only fails) e =
     let ends : ending_of_make error ≡ Refuses r = ends_same (ending_of_make error) (Refuses r) (sym (ap ended_of is) ∙ e) in
     ready_not_refused words (files_of old) request only.acts r ready asked only.quiet only.truly
-    (ap (making_of_copy [] Planned request) (sym only.moments) ∙ refused_making (making_of_copy [] Planned request) (moments_since old new) (ending_of_make error) r fails ends)
+    (ap (making_of_request [] Planned request) (sym only.moments) ∙ refused_making (making_of_request [] Planned request) (moments_since old new) (ending_of_make error) r fails ends)
 never_refuses words old new result r ready (was_run request stage ending is asked w done) e =
     run_not_refused words old new r ready
     (subst (HasWasRun words old new) (ends_same ending (Refuses r) (sym is ∙ e)) (was_run_as words old new request asked stage ending w))

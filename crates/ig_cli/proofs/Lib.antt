@@ -6,7 +6,6 @@ pub mod Reports
 pub mod Cuts
 pub mod Numbers
 pub mod Reading
-pub mod CopyWords
 pub mod OptionNames
 pub mod PlanWords
 pub mod Prefixes

@@ -8,7 +8,7 @@ use Rattle.ig_meaning.specs.Fault.{making_of}
 use Rattle.ig_meaning.specs.Lines.{made_line}
 use Rattle.ig_meaning.specs.Making.{Making, Refused, Unfinished, Planned, New, Continues}
 use Rattle.ig_meaning.specs.QueueActs.{HasMade}
-use Rattle.ig_meaning.specs.Words.{Copy, Enqueue, Request, command_of, queue_of_command, queue_of_words}
+use Rattle.ig_meaning.specs.Words.{Local, Enqueue, Request, command_of, queue_of_command, queue_of_words}
 use Rattle.ig_stage.specs.declared.enqueuing.Made as queue
 use Rattle.ig_stage.specs.declared.error.MakeError.{MakeError}
 use Rattle.ig_stage.specs.Errors.{ending_of_make}
@@ -38,7 +38,7 @@ did_make : (words : List (List ℕ)) (old new : Log) (q : List ℕ) (made : Resu
 did_make words old new q (Ok m) are e = record { made = are.0; line = text_is (making_of words (moments_since old new)) m are.1 }
 did_make words old new q (Err error) are e = absurd (made_never_finished error (ends_same (ending_of_make error) Finished e))
 
-copies_alone : (words : List (List ℕ)) (q : List ℕ) (request : Request) → command_of words ≡ Some (Copy request) → queue_of_words words ≡ Some q → ⊥
+copies_alone : (words : List (List ℕ)) (q : List ℕ) (request : Request) → command_of words ≡ Some (Local request) → queue_of_words words ≡ Some q → ⊥
 copies_alone words q request asked some = let no_way : None ≡ Some q = sym (ap queue_of_command asked) ∙ some in cc
 
 one_queue : (words : List (List ℕ)) (q other : List ℕ) (request : Request) → command_of words ≡ Some (Enqueue other request) → queue_of_words words ≡ Some q → other ≡ q

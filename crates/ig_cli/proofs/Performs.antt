@@ -9,7 +9,7 @@ use Rattle.ig_defs.specs.Own.{Moment, moments_since, own_moments, put_all, puts_
 use Rattle.ig_defs.specs.Replay.{AreQuiet}
 use Rattle.ig_meaning.specs.Call.{AllLook}
 use Rattle.ig_meaning.specs.Ending.{Ending, Finished, Refuses, StoreFailed, NoMemory, HasRun, IsFaultOf}
-use Rattle.ig_meaning.specs.Making.{Making, Refused, Unfinished, Planned, New, Continues, making_of_copy}
+use Rattle.ig_meaning.specs.Making.{Making, Refused, Unfinished, Planned, New, Continues, making_of_request}
 use Rattle.ig_meaning.specs.Fault.{fault_of, fault_of_making, making_of, making_of_command}
 use Rattle.ig_meaning.specs.Plan.{stage_of, stage_of_command}
 use Rattle.ig_meaning.specs.QueueActs.{HasMade}
@@ -18,7 +18,7 @@ use Rattle.ig_rule.specs.Went.{Went}
 use Rattle.ig_task.specs.Pipeline.{is_allowed}
 use Rattle.ig_stage.specs.Open.{maker_rule}
 use Rattle.ig_meaning.specs.Refusal as refusal
-use Rattle.ig_meaning.specs.Words.{Copy, Enqueue, Request, command_of, queue_of_command, queue_of_words}
+use Rattle.ig_meaning.specs.Words.{Local, Enqueue, Request, command_of, queue_of_command, queue_of_words}
 use Rattle.ig_record.specs.declared.stage.Stage.{Stage}
 use Rattle.ig_stage.specs.declared.error.LocalError.{LocalError}
 use Rattle.ig_stage.specs.declared.error.LocalError.TheVariants.{Make}
@@ -43,7 +43,7 @@ use Rattle.ig_cli.specs.Performed.{Performed, enqueued, given_by, not_words, not
 use Rattle.ig_cli.specs.Report.{Ended, Ends, NotWords, ended_of}
 
 -- ---- the end of a call is that of its command
-module _ (words : List (List ℕ)) (old new : Log) (request : reading.Request) (asked : command_of words ≡ Some (Copy (shown_request request))) where
+module _ (words : List (List ℕ)) (old new : Log) (request : reading.Request) (asked : command_of words ≡ Some (Local (shown_request request))) where
   same_one : (want : List reading.Request) (other : reading.Request) → want ≡ request ∷ [] → want ≡ other ∷ [] → other ≡ request
   same_one want other is one = let same : other ∷ [] ≡ request ∷ [] = sym one ∙ is in cc
 
@@ -54,7 +54,7 @@ module _ (words : List (List ℕ)) (old new : Log) (request : reading.Request) (
       let r = same_one want other is one in
       let e_is : e ≡ Make m = cc in
       not_made (shown_request request) m (ends ∙ ap (λ x. Err (Local x)) e_is) asked looked
-      (subst (λ (q : reading.Request). IsErrorOf (making_of_copy [] Planned (shown_request q)) (moments_since old new) (ending_of_make m)) r error)
+      (subst (λ (q : reading.Request). IsErrorOf (making_of_request [] Planned (shown_request q)) (moments_since old new) (ending_of_make m)) r error)
   performed_error want is e result ends (local.was_run other s one ran done) =
       let r = same_one want other is one in
       subst (Performed words old new) (sym ends)
@@ -115,8 +115,8 @@ pub record HasWasRun (words : List (List ℕ)) (old new : Log) (ending : Ending)
   pub puts : puts_of (moments_since old new) ≡ puts_of after
   pub files : files_of new ≡ put_all (files_of old) (puts_of after)
 
-module _ (words : List (List ℕ)) (old new : Log) (request : Request) (asked : command_of words ≡ Some (Copy request)) where
-  pub making_is : making_of words (moments_since old new) ≡ making_of_copy [] Planned request (moments_since old new)
+module _ (words : List (List ℕ)) (old new : Log) (request : Request) (asked : command_of words ≡ Some (Local request)) where
+  pub making_is : making_of words (moments_since old new) ≡ making_of_request [] Planned request (moments_since old new)
   making_is = ap (λ command. making_of_command command (moments_since old new)) asked
 
   pub planned_of : (s : Stage) (ending : Ending) → WasRun request old new s ending → stage_of words (files_of old) ≡ Some s
@@ -219,15 +219,15 @@ pub data Outcome (words : List (List ℕ)) (old new : Log) (ended : Ended) : Typ
   queued : (q : List ℕ) → queue_of_words words ≡ Some q → LooksFirst (making_of words (moments_since old new)) (moments_since old new)
       → ((r : refusal.Refusal) → ended ≡ Ends (Refuses r) → making_of words (moments_since old new) ≡ Refused r) → Outcome words old new ended
 
-module _ (words : List (List ℕ)) (old new : Log) (request : Request) (e : MakeError) (asked : command_of words ≡ Some (Copy request))
-    (error : IsErrorOf (making_of_copy [] Planned request) (moments_since old new) (ending_of_make e)) where
+module _ (words : List (List ℕ)) (old new : Log) (request : Request) (e : MakeError) (asked : command_of words ≡ Some (Local request))
+    (error : IsErrorOf (making_of_request [] Planned request) (moments_since old new) (ending_of_make e)) where
   pub not_made_fault : IsFaultOf (ending_of_make e) (fault_of words (moments_since old new))
   not_made_fault =
       subst (λ m. IsFaultOf (ending_of_make e) (fault_of_making m)) (sym (making_is words old new request asked))
-      (error_fault (making_of_copy [] Planned request) (moments_since old new) (ending_of_make e) error)
+      (error_fault (making_of_request [] Planned request) (moments_since old new) (ending_of_make e) error)
 
   pub not_made_refused : (r : refusal.Refusal) → ending_of_make e ≡ Refuses r → making_of words (moments_since old new) ≡ Refused r
-  not_made_refused r is = making_is words old new request asked ∙ refused_making (making_of_copy [] Planned request) (moments_since old new) (ending_of_make e) r error is
+  not_made_refused r is = making_is words old new request asked ∙ refused_making (making_of_request [] Planned request) (moments_since old new) (ending_of_make e) r error is
 
 pub outcome : (words : List (List ℕ)) (old new : Log) (result : Result Done CommandError) → Performed words old new result → Outcome words old new (ended_of result)
 outcome words old new result (not_words is none same) =
@@ -266,8 +266,8 @@ fault_at words old new result (enqueued q request made is asked m) =
     (fault_there q made (making_of words (moments_since old new)) (moments_since old new) (enqueued_as words old new q request made asked m).are)
 
 -- nothing is done where the words are no command's
-no_command : (words : List (List ℕ)) (request : Request) → command_of words ≡ None → command_of words ≡ Some (Copy request) → ⊥
-no_command words request none asked = let no_way : None ≡ Some (Copy request) = sym none ∙ asked in cc
+no_command : (words : List (List ℕ)) (request : Request) → command_of words ≡ None → command_of words ≡ Some (Local request) → ⊥
+no_command words request none asked = let no_way : None ≡ Some (Local request) = sym none ∙ asked in cc
 
 no_queue : (words : List (List ℕ)) (q : List ℕ) (request : Request) → command_of words ≡ None → command_of words ≡ Some (Enqueue q request) → ⊥
 no_queue words q request none asked = let no_way : None ≡ Some (Enqueue q request) = sym none ∙ asked in cc

@@ -153,6 +153,7 @@ copied_of : (words : List (List ℕ)) (old new : Log) → HasWasRun words old ne
 copied_of words old new w = record {
   stage = w.stage;
   planned = w.planned;
+  sound = w.run.wanted.sound;
   outputs = w.run.wanted.outputs;
   wanted = w.run.wanted.wanted;
   files = w.files ∙ w.run.wanted.put;

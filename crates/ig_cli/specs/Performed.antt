@@ -3,8 +3,8 @@ use Rattle.std.specs.Prelude.{◌≡◌, ℕ, List, [], ◌∷◌, Some, None, R
 use Rattle.ig_defs.specs.Log.{Log}
 use Rattle.ig_defs.specs.Own.{moments_since}
 use Rattle.ig_meaning.specs.Ending.{Ending, NoMemory}
-use Rattle.ig_meaning.specs.Making.{Planned, making_of_copy}
-use Rattle.ig_meaning.specs.Words.{Copy, Enqueue, Request, command_of}
+use Rattle.ig_meaning.specs.Making.{Planned, making_of_request}
+use Rattle.ig_meaning.specs.Words.{Local, Enqueue, Request, command_of}
 use Rattle.ig_record.specs.declared.stage.Stage.{Stage}
 use Rattle.ig_stage.specs.declared.enqueuing.Made as queue
 use Rattle.ig_stage.specs.declared.error.LocalError.TheVariants.{Make}
@@ -35,9 +35,9 @@ given_by (Err e) = Err (Local (Make e))
 pub data Performed (words : List (List ℕ)) (old new : Log) (result : Result Done CommandError) : Type 0 where
   not_words : ended_of result ≡ NotWords → command_of words ≡ None → new ≡ old → Performed words old new result
   not_read : ended_of result ≡ Ends NoMemory → new ≡ old → Performed words old new result
-  not_made : (request : Request) (e : MakeError) → result ≡ Err (Local (Make e)) → command_of words ≡ Some (Copy request)
-      → OnlyLooked old new → IsErrorOf (making_of_copy [] Planned request) (moments_since old new) (ending_of_make e) → Performed words old new result
-  was_run : (request : Request) (stage : Stage) (ending : Ending) → ended_of result ≡ Ends ending → command_of words ≡ Some (Copy request)
+  not_made : (request : Request) (e : MakeError) → result ≡ Err (Local (Make e)) → command_of words ≡ Some (Local request)
+      → OnlyLooked old new → IsErrorOf (making_of_request [] Planned request) (moments_since old new) (ending_of_make e) → Performed words old new result
+  was_run : (request : Request) (stage : Stage) (ending : Ending) → ended_of result ≡ Ends ending → command_of words ≡ Some (Local request)
       → WasRun request old new stage ending → IsRun stage result → Performed words old new result
   enqueued : (q : List ℕ) (request : Request) (made : Result queue.Made MakeError) → result ≡ given_by made → command_of words ≡ Some (Enqueue q request)
       → MakesIn q request old new made → Performed words old new result

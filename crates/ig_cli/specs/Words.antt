@@ -1,25 +1,36 @@
 -- What the words of the command line ask for.
-use Rattle.std.specs.Prelude.{◌≡◌, ◌≤◌, ◌^◌, ℕ, true, List, length, IfSome, String, map, option_map, string_bytes}
+use Rattle.std.specs.Prelude.{◌≡◌, ◌≤◌, ◌^◌, ℕ, true, List, Option, length, IfSome, String, map, option_map, string_bytes}
 use Rattle.std.specs.declared.alloc.Global.{Global}
 use Rattle.ig_space.specs.Path.{is_path}
 use Rattle.ig_meaning.specs.QueueWords.{is_apart}
 use Rattle.ig_meaning.specs.Words as meaning
 use Rattle.ig_meaning.specs.Words.{Request}
+use Rattle.ig_record.specs.declared.stage.Kind.{Kind}
 use Rattle.ig_stage.specs.declared.request.Request as reading
 use Rattle.ig_stage.specs.Requests.{HasLimits, HasSides, shown_coding, shown_request}
 use Rattle.ig_worker.specs.declared.plan.Plan.{Plan}
 use Rattle.ig_cli.specs.declared.plan_words.Numbers.{Numbers}
 use Rattle.ig_cli.specs.declared.words.Command.{Command}
-use Rattle.ig_cli.specs.declared.words.Command.TheVariants.{Copy, Enqueue}
+use Rattle.ig_cli.specs.declared.words.Command.TheVariants.{Local, Enqueue}
 use Rattle.ig_cli.specs.declared.words.Sizes.{Sizes}
 
 -- the bytes of each word
 abbrev pub texts_of : List (String Global) → List (List ℕ)
 texts_of words = map string_bytes words
 
--- the request for the copy of one layer into another
-abbrev pub request_with : List ℕ → List ℕ → Sizes → Request
-request_with source dest sizes = record { source = source; dest = dest; mip = sizes.mip; chunk = sizes.chunk; shape = sizes.shape; encoding = option_map shown_coding sizes.encoding; block = sizes.block }
+-- the request for a stage of this kind with these layers
+abbrev pub request_with : Kind → List ℕ → Option (List ℕ) → Sizes → Request
+request_with kind source dest sizes = record {
+  kind = kind;
+  source = source;
+  dest = dest;
+  mip = sizes.mip;
+  levels = 0;
+  chunk = sizes.chunk;
+  shape = sizes.shape;
+  encoding = option_map shown_coding sizes.encoding;
+  block = sizes.block;
+}
 
 -- the number of the scale has at most two digits, and each side that is given is within its limits
 pub record HasSizes (sizes : Sizes) : Type 0 where
@@ -29,7 +40,7 @@ pub record HasSizes (sizes : Sizes) : Type 0 where
 
 -- the command that this is
 abbrev pub shown_command : Command → meaning.Command
-shown_command (Copy request) = meaning.Copy (shown_request request)
+shown_command (Local request) = meaning.Local (shown_request request)
 shown_command (Enqueue queue request) = meaning.Enqueue queue (shown_request request)
 
 -- The queue's directory is a short path, and the layers lie apart from it.
@@ -41,7 +52,7 @@ pub record CanHold (queue : List ℕ) (request : reading.Request) : Type 0 where
 
 -- what is known of a command that was read
 abbrev pub IsLawful : Command → Type 0
-IsLawful (Copy request) = HasLimits request
+IsLawful (Local request) = HasLimits request
 IsLawful (Enqueue queue request) = HasLimits request × CanHold queue request
 
 -- the plan of a worker on this queue with these numbers

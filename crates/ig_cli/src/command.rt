@@ -93,7 +93,7 @@ fn copy<S: Store<Pipeline>>(
     ensures later { S.faults store.old ≤ S.faults store.new }
     ensures cause { ended_of result ≡ Ends StoreFailed → Rose (S.faults store.old) (S.faults store.new) }
     ensures not_words { ended_of result ≡ NotWords → ⊥ }
-    ensures performed { S.tells → (words : list (list ℕ)) → command_of words ≡ Some (meaning.Copy (shown_request request)) → Performed words (S.log store.old) (S.log store.new) result }
+    ensures performed { S.tells → (words : list (list ℕ)) → command_of words ≡ Some (meaning.Local (shown_request request)) → Performed words (S.log store.old) (S.log store.new) result }
 {
     let want = only(alloc, request)?;
     Ok(Done::Ran(run_local(alloc, store, &want)?))
@@ -134,7 +134,7 @@ fn perform<S: Store<Pipeline>>(
     ensures complete { S.tells → (q : list ℕ) (request : meaning.Request) → command_of (texts_of words.now.items) ≡ Some (meaning.Enqueue q request) → CanMake q request (files_of (S.log store.old)) → AllOwn (steps_since (S.log store.old) (S.log store.new)) → (r : Refusal) → ended_of result ≡ Ends (Refuses r) → ⊥ }
 {
     match read_words(alloc, words)? {
-        Some(Command::Copy(request)) => copy(alloc, store, request),
+        Some(Command::Local(request)) => copy(alloc, store, request),
         Some(Command::Enqueue { queue, request }) => enqueue(alloc, store, &queue, &request),
         None => Err(CommandError::Words),
     }

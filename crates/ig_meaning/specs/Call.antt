@@ -1,19 +1,20 @@
 -- What a call did, by its words, its status, and the log at its entry and its exit.
-use Rattle.std.specs.Prelude.{◌≡◌, ℕ, List, [], ◌∷◌, Some, None}
+use Rattle.std.specs.Prelude.{◌≡◌, ℕ, true, List, [], ◌∷◌, Some, None}
 use Rattle.ig_defs.specs.Files.{Files, file_at}
 use Rattle.ig_defs.specs.Log.{Log, IsQuiet, files_of}
 use Rattle.ig_defs.specs.Names.{Stands}
 use Rattle.ig_defs.specs.Own.{Moment, moments_since, puts_of, reads_of}
-use Rattle.ig_space.specs.declared.place.Place.{Place}
 use Rattle.ig_meaning.specs.Refusal.{Refusal}
 use Rattle.ig_record.specs.declared.stage.Stage.{Stage}
 use Rattle.ig_record.specs.declared.stage.InfoFile.{InfoFile}
+use Rattle.ig_record.specs.Columns.{output_dirs}
+use Rattle.ig_record.specs.Sound.{is_sound}
 use Rattle.ig_cutout.specs.declared.types.Output.{Output}
 use Rattle.ig_meaning.specs.Jobs.{jobs_of, planned_puts, planned_reads, sequential, with_info, with_outputs}
 use Rattle.ig_meaning.specs.Stage.{unfit}
 use Rattle.ig_meaning.specs.Wants.{wanted_outputs}
 use Rattle.ig_meaning.specs.Plan.{stage_of}
-use Rattle.ig_meaning.specs.Making.{Making, Refused, Unfinished, Planned, New, Continues}
+use Rattle.ig_meaning.specs.Making.{Making, Refused, Unfinished, Planned, New, Continues, fresh_info}
 use Rattle.ig_meaning.specs.Fault.{fault_of, making_of}
 use Rattle.ig_meaning.specs.Ending.{AreFirst}
 use Rattle.ig_meaning.specs.Lines.{fault_line, refusal_text}
@@ -23,6 +24,7 @@ use Rattle.ig_meaning.specs.Lines.{fault_line, refusal_text}
 pub record IsCopied (words : List (List ℕ)) (old new : Log) : Type 0 where
   pub stage : Stage
   pub planned : stage_of words (files_of old) ≡ Some stage
+  pub sound : is_sound stage ≡ true
   pub outputs : List Output
   pub wanted : wanted_outputs stage (file_at (files_of old)) ≡ Some outputs
   pub files : files_of new ≡ with_outputs (with_info stage.info (files_of old)) outputs
@@ -37,17 +39,17 @@ pub record IsSequential (words : List (List ℕ)) (old new : Log) : Type 0 where
   pub reads : reads_of after ≡ planned_reads stage
 
 -- no file lies directly in the directory of any of these
-abbrev pub AllEmpty : Files → List Place → Type 0
+abbrev pub AllEmpty : Files → List (List ℕ) → Type 0
 AllEmpty files [] = Unit {0}
-AllEmpty files (dest ∷ dests) = ((name : List ℕ) → Stands files dest.dir name → ⊥) × AllEmpty files dests
+AllEmpty files (dir ∷ dirs) = ((name : List ℕ) → Stands files dir name → ⊥) × AllEmpty files dirs
 
--- Nothing keeps the command of these words from running in these files: its stage is planned, its info and its output
--- directories are free, it fits, and its sequential run is defined.
+-- Nothing keeps the command of these words from running in these files: its stage is planned, no file stands at the path of its
+-- info, where that has to be new, or lies in its output directories, it fits, and its sequential run is defined.
 pub record IsReady (words : List (List ℕ)) (files : Files) : Type 0 where
   pub stage : Stage
   pub planned : stage_of words files ≡ Some stage
-  pub no_info : (info : InfoFile) → stage.info ≡ Some info → file_at files info.path ≡ None
-  pub no_names : AllEmpty files stage.dests
+  pub no_info : (info : InfoFile) → fresh_info stage ≡ Some info → file_at files info.path ≡ None
+  pub no_names : AllEmpty files (output_dirs stage)
   pub fits : unfit stage ≡ None
   pub after : Files
   pub runs : sequential (jobs_of stage) (with_info stage.info files) ≡ Some after

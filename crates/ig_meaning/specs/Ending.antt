@@ -1,9 +1,10 @@
 -- How a call ended, and what its own steps then are.
-use Rattle.std.specs.Prelude.{◌≡◌, ℕ, List, take, Option, None, Some}
+use Rattle.std.specs.Prelude.{◌≡◌, ℕ, true, List, take, Option, None, Some}
 use Rattle.ig_defs.specs.Files.{Files, file_at}
 use Rattle.ig_defs.specs.Own.{File, Moment, put_all, puts_of, reads_of}
 use Rattle.ig_meaning.specs.Refusal.{Refusal}
 use Rattle.ig_record.specs.declared.stage.Stage.{Stage}
+use Rattle.ig_record.specs.Sound.{is_sound}
 use Rattle.ig_cutout.specs.declared.types.Output.{Output}
 use Rattle.ig_meaning.specs.Jobs.{jobs_of, planned_puts, planned_reads, sequential, with_info, with_outputs}
 use Rattle.ig_meaning.specs.Wants.{wanted_outputs}
@@ -34,8 +35,9 @@ AreAsFar (Refuses refusal) xs all = xs ≡ all
 AreAsFar StoreFailed xs all = AreFirst xs all
 AreAsFar NoMemory xs all = AreFirst xs all
 
--- With these puts the files are what they are with the stage's info and then what is wanted of it.
+-- The stage is sound, and with these puts the files are what they are with its info and then what is wanted of it.
 pub record PutsWanted (s : Stage) (files : Files) (puts : List File) : Type 0 where
+  pub sound : is_sound s ≡ true
   pub outputs : List Output
   pub wanted : wanted_outputs s (file_at files) ≡ Some outputs
   pub put : put_all files puts ≡ with_outputs (with_info s.info files) outputs

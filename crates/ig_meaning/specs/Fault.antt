@@ -12,9 +12,9 @@ use Rattle.ig_record.specs.declared.stage.Stage.{Stage}
 use Rattle.ig_record.specs.Columns.{inputs_of}
 use Rattle.ig_record.specs.Stage.{task_count}
 use Rattle.ig_meaning.specs.Task.{task_refusal}
-use Rattle.ig_meaning.specs.Making.{Making, Refused, Unfinished, Planned, New, Continues, making_of_copy}
+use Rattle.ig_meaning.specs.Making.{Making, Refused, Unfinished, Planned, New, Continues, making_of_request}
 use Rattle.ig_meaning.specs.QueueMaking.{making_of_enqueue}
-use Rattle.ig_meaning.specs.Words.{Command, Copy, Enqueue, command_of}
+use Rattle.ig_meaning.specs.Words.{Command, Local, Enqueue, command_of}
 
 -- ---- while it runs: the own reads in order, each with what it found, are those of one task after the other
 pub record Find : Type 0 where
@@ -62,7 +62,7 @@ fault_of_run s ms = fault_of_tasks s (task_count s) 0 (finds_of ms)
 -- ---- by the words
 abbrev pub making_of_command : Option Command → List Moment → Making
 making_of_command None ms = Unfinished
-making_of_command (Some (Copy request)) ms = making_of_copy [] Planned request ms
+making_of_command (Some (Local request)) ms = making_of_request [] Planned request ms
 making_of_command (Some (Enqueue q request)) ms = making_of_enqueue q request ms
 
 -- the making of a call with these words, by its own steps

@@ -8,7 +8,7 @@ use Rattle.ig_cseg.specs.declared.fault.CsegFault.TheVariants.{NotWords, NoChann
 use Rattle.ig_layer.specs.Faults.{Cause, BadCseg, WrongLength}
 use Rattle.ig_defs.specs.QueueNames.{digits}
 use Rattle.ig_record.specs.Record.{kind_word}
-use Rattle.ig_meaning.specs.Refusal.{Refusal, Missing, BadInfo, NoScale, NotEmpty, ShapeUnfit, TooManyTasks, TaskTooLarge, Malformed, TooManyParts, BadRecord, TooManyStages, Taken}
+use Rattle.ig_meaning.specs.Refusal.{Refusal, Missing, BadInfo, NoScale, NotEmpty, ShapeUnfit, TooManyTasks, TaskTooLarge, Malformed, TooManyParts, BadRecord, TooManyStages, Taken, NoStage}
 use Rattle.ig_meaning.specs.Making.{Making, Refused, Unfinished, Planned, New, Continues}
 use Rattle.ig_record.specs.declared.stage.Stage.{Stage}
 use Rattle.ig_record.specs.declared.stage.Kind.{Kind}
@@ -78,6 +78,7 @@ refusal_text (TooManyParts count) = spaced (codes "too many parts") (decimal cou
 refusal_text (BadRecord path member) = spaced (codes "malformed") (spaced path (spaced (codes "record member") member))
 refusal_text (TooManyStages count) = spaced (codes "too many stages") (decimal count)
 refusal_text (Taken stage) = spaced (codes "taken by stage") (digits 4 stage)
+refusal_text (NoStage kind) = spaced (codes "no stage") (kind_word kind)
 
 -- on standard error, for the fault with which a command ends
 abbrev pub fault_line : List ℕ → List ℕ

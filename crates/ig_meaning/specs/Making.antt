@@ -3,13 +3,13 @@
 use Rattle.std.specs.Prelude.{ℕ, Bool, true, false, List, [], ◌∷◌, Option, None, Some, is_some, Result, Ok, Err}
 use Rattle.std.specs.Str.{bytes_eq}
 use Rattle.ig_space.specs.Path.{joined}
-use Rattle.ig_space.specs.declared.place.Place.{Place}
 use Rattle.ig_defs.specs.declared.step.Act.{Act}
 use Rattle.ig_defs.specs.declared.step.Act.TheVariants as act
 use Rattle.ig_defs.specs.Files.{file_at}
 use Rattle.ig_defs.specs.Own.{Moment}
 use Rattle.ig_record.specs.declared.stage.Stage.{Stage}
 use Rattle.ig_record.specs.declared.stage.InfoFile.{InfoFile}
+use Rattle.ig_record.specs.Columns.{needs_fresh_info, output_dirs}
 use Rattle.ig_meaning.specs.Refusal.{Refusal, Missing, NotEmpty}
 use Rattle.ig_meaning.specs.Plan.{info_path, planned}
 use Rattle.ig_meaning.specs.Taken.{unfit_after}
@@ -64,34 +64,42 @@ making_of_names dir (name ∷ names) making = Refused (NotEmpty (joined dir name
 making_of_names dir [] making = making
 
 -- the output directories, each listed by one own step
-abbrev pub making_of_dirs : List Stage → (Stage → List Moment → Making) → Stage → List Place → List Moment → Making
+abbrev pub making_of_dirs : List Stage → (Stage → List Moment → Making) → Stage → List (List ℕ) → List Moment → Making
 making_of_dirs earlier planned_as s [] ms = making_of_fit planned_as s (unfit_after earlier s) ms
-making_of_dirs earlier planned_as s (dest ∷ dests) [] = Unfinished
-making_of_dirs earlier planned_as s (dest ∷ dests) (m ∷ ms) =
-    where_it_looks (lists dest.dir m.act) (making_of_names dest.dir (given_by m.act) (making_of_dirs earlier planned_as s dests ms))
+making_of_dirs earlier planned_as s (dir ∷ dirs) [] = Unfinished
+making_of_dirs earlier planned_as s (dir ∷ dirs) (m ∷ ms) =
+    where_it_looks (lists dir m.act) (making_of_names dir (given_by m.act) (making_of_dirs earlier planned_as s dirs ms))
 
 abbrev pub making_of_found : List Stage → (Stage → List Moment → Making) → Stage → List ℕ → Bool → List Moment → Making
 making_of_found earlier planned_as s path true ms = Refused (NotEmpty path)
-making_of_found earlier planned_as s path false ms = making_of_dirs earlier planned_as s s.dests ms
+making_of_found earlier planned_as s path false ms = making_of_dirs earlier planned_as s (output_dirs s) ms
 
--- the file of the new info, looked at by one own step
+-- the info that has to be new, if there is one
+abbrev pub info_if : Bool → Option InfoFile → Option InfoFile
+info_if true info = info
+info_if false info = None
+
+abbrev pub fresh_info : Stage → Option InfoFile
+fresh_info s = info_if (needs_fresh_info s.kind) s.info
+
+-- its file, looked at by one own step
 abbrev pub making_of_info : List Stage → (Stage → List Moment → Making) → Stage → Option InfoFile → List Moment → Making
-making_of_info earlier planned_as s None ms = making_of_dirs earlier planned_as s s.dests ms
+making_of_info earlier planned_as s None ms = making_of_dirs earlier planned_as s (output_dirs s) ms
 making_of_info earlier planned_as s (Some info) [] = Unfinished
 making_of_info earlier planned_as s (Some info) (m ∷ ms) =
     where_it_looks (reads info.path m.act) (making_of_found earlier planned_as s info.path (is_some (file_at m.files info.path)) ms)
 
 abbrev pub making_of_plan : List Stage → (Stage → List Moment → Making) → Result Stage Refusal → List Moment → Making
 making_of_plan earlier planned_as (Err refusal) ms = Refused refusal
-making_of_plan earlier planned_as (Ok s) ms = making_of_info earlier planned_as s s.info ms
+making_of_plan earlier planned_as (Ok s) ms = making_of_info earlier planned_as s (fresh_info s) ms
 
 abbrev pub making_of_source : List Stage → (Stage → List Moment → Making) → Request → Option (List ℕ) → List Moment → Making
 making_of_source earlier planned_as request None ms = Refused (Missing (info_path request.source))
-making_of_source earlier planned_as request (Some bytes) ms = making_of_plan earlier planned_as (planned request bytes) ms
+making_of_source earlier planned_as request (Some bytes) ms = making_of_plan earlier planned_as (planned earlier request bytes) ms
 
--- The making of a copy after these earlier stages of a queue, none where it is run by this process. The info of the source is read
+-- The making of a stage after these earlier ones of a queue, none where it is run by this process. The info of the source is read
 -- by the first own step.
-abbrev pub making_of_copy : List Stage → (Stage → List Moment → Making) → Request → List Moment → Making
-making_of_copy earlier planned_as request [] = Unfinished
-making_of_copy earlier planned_as request (m ∷ ms) =
+abbrev pub making_of_request : List Stage → (Stage → List Moment → Making) → Request → List Moment → Making
+making_of_request earlier planned_as request [] = Unfinished
+making_of_request earlier planned_as request (m ∷ ms) =
     where_it_looks (reads (info_path request.source) m.act) (making_of_source earlier planned_as request (file_at m.files (info_path request.source)) ms)

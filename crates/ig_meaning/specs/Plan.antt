@@ -1,5 +1,5 @@
--- The stage that a command plans, from the info of its source layer.
-use Rattle.std.specs.Prelude.{◌*◌, ℕ, List, [], ◌∷◌, length, Option, None, Some, Result, Ok, Err, slice_get, unwrap_or, codes}
+-- The stage that a command plans, kind by kind, from the info of its source layer and from the stages before it.
+use Rattle.std.specs.Prelude.{ℕ, List, [], ◌∷◌, length, Option, None, Some, Result, Ok, Err, slice_get, unwrap_or, codes}
 use Rattle.std.specs.Result.{result_ok}
 use Rattle.ig_space.specs.declared.point.Point.{Point}
 use Rattle.ig_space.specs.declared.geometry.Encoding.{Encoding}
@@ -13,10 +13,13 @@ use Rattle.ig_info.specs.Dest.{dest_of}
 use Rattle.ig_info.specs.Reading.{info_in}
 use Rattle.serde_json.specs.Written.{compact_text}
 use Rattle.ig_defs.specs.Files.{Files, file_at}
-use Rattle.ig_meaning.specs.Refusal.{Refusal, BadInfo, NoScale}
+use Rattle.ig_meaning.specs.Refusal.{Refusal, BadInfo, NoScale, NoStage}
 use Rattle.ig_record.specs.declared.stage.Stage.{Stage}
-use Rattle.ig_record.specs.declared.stage.Kind.TheVariants.{Xfer}
-use Rattle.ig_meaning.specs.Words.{Coding, Plain, Compressed, Command, Copy, Enqueue, Request, command_of}
+use Rattle.ig_record.specs.declared.stage.Kind.{Kind}
+use Rattle.ig_record.specs.declared.stage.Kind.TheVariants.{Xfer, Count}
+use Rattle.ig_record.specs.Sound.{counts_name}
+use Rattle.ig_record.specs.Stage.{shape_unit, times, usual_units}
+use Rattle.ig_meaning.specs.Words.{Coding, Plain, Compressed, Command, Local, Enqueue, Request, command_of, new_layer}
 
 -- the info file of a layer
 abbrev pub info_path : List ℕ → List ℕ
@@ -25,10 +28,6 @@ info_path layer = joined layer (codes "info")
 -- a scale of a layer
 abbrev pub place_in : List ℕ → Scale → Place
 place_in layer scale = record { dir = joined layer scale.key; geometry = scale.geometry }
-
--- twice on each axis
-abbrev pub twice : Point → Point
-twice p = record { x = 2 * p.x; y = 2 * p.y; z = 2 * p.z }
 
 -- the same scale in chunks of this size, written so
 abbrev pub in_chunks : Point → Encoding → Scale → Scale
@@ -58,41 +57,64 @@ new_encoding None block (Cseg own) = compressed block (Cseg own)
 abbrev pub new_scale : Request → Scale → Scale
 new_scale request s = in_chunks (unwrap_or request.chunk s.geometry.chunk) (new_encoding request.encoding request.block s.geometry.encoding) s
 
--- the copy of a scale into a new layer that has this scale and this info; a task's box is twice a new chunk on each axis
--- where no shape is asked for
+-- the shape that is asked for, and else the usual one of the kind
+abbrev pub shape_for : Kind → Request → Place → List Place → Point
+shape_for kind request source dests = unwrap_or request.shape (times (unwrap_or (usual_units kind) 1) (shape_unit kind source dests))
+
+-- the copy of a scale into a new layer that has this scale and this info
 abbrev pub copy_stage : Request → Scale → Scale → InfoData → Stage
 copy_stage request scale new info = record {
   kind = Xfer;
   source = place_in request.source scale;
-  dests = place_in request.dest new ∷ [];
+  dests = place_in (new_layer request) new ∷ [];
   scratch = None;
-  shape = unwrap_or request.shape (twice new.geometry.chunk);
-  info = Some (record { path = info_path request.dest; text = compact_text info.members });
+  shape = shape_for Xfer request (place_in request.source scale) (place_in (new_layer request) new ∷ []);
+  info = Some (record { path = info_path (new_layer request); text = compact_text info.members });
 }
 
 abbrev pub with_dest : Request → Scale → Scale → Result InfoData InfoError → Result Stage Refusal
 with_dest request scale new (Ok info) = Ok (copy_stage request scale new info)
-with_dest request scale new (Err cause) = Err (BadInfo (info_path request.dest) cause)
+with_dest request scale new (Err cause) = Err (BadInfo (info_path (new_layer request)) cause)
 
-abbrev pub with_scale : Request → InfoData → Option Scale → Result Stage Refusal
-with_scale request info (Some scale) = with_dest request scale (new_scale request scale) (dest_of (new_scale request scale))
-with_scale request info None = Err (NoScale request.mip (length info.scales))
+-- the first pass of a scale, whose scratch lies under this name in the layer
+abbrev pub pass_stage : Kind → List ℕ → Request → Scale → Stage
+pass_stage kind name request scale = record {
+  kind = kind;
+  source = place_in request.source scale;
+  dests = [];
+  scratch = Some (joined (joined request.source name) scale.key);
+  shape = shape_for kind request (place_in request.source scale) [];
+  info = None;
+}
 
-abbrev pub with_info : Request → Result InfoData InfoError → Result Stage Refusal
-with_info request (Ok info) = with_scale request info (slice_get info.scales request.mip)
-with_info request (Err cause) = Err (BadInfo (info_path request.source) cause)
+-- ---- by the kind
+-- the stage of a scale after these earlier ones; the kinds that are not listed have not come
+abbrev pub planned_by : Kind → List Stage → Request → Scale → Result Stage Refusal
+planned_by Xfer earlier request scale = with_dest request scale (new_scale request scale) (dest_of (new_scale request scale))
+planned_by Count earlier request scale = Ok (pass_stage Count counts_name request scale)
+planned_by kind earlier request scale = Err (NoStage kind)
 
--- the stage of a copy, by the bytes of the source's info, or the refusal of that info, of the scale or of the new info
-unfoldable pub planned : Request → List ℕ → Result Stage Refusal
-planned request bytes = with_info request (info_in bytes)
+-- ---- for every kind
+abbrev pub with_scale : List Stage → Request → InfoData → Option Scale → Result Stage Refusal
+with_scale earlier request info (Some scale) = planned_by request.kind earlier request scale
+with_scale earlier request info None = Err (NoScale request.mip (length info.scales))
 
-abbrev pub stage_of_found : Request → Option (List ℕ) → Option Stage
-stage_of_found request None = None
-stage_of_found request (Some bytes) = result_ok (planned request bytes)
+abbrev pub with_info : List Stage → Request → Result InfoData InfoError → Result Stage Refusal
+with_info earlier request (Ok info) = with_scale earlier request info (slice_get info.scales request.mip)
+with_info earlier request (Err cause) = Err (BadInfo (info_path request.source) cause)
+
+-- the stage that is asked for after these earlier ones, by the bytes of the source's info; or the refusal of that info, of the
+-- scale, or of the new info
+unfoldable pub planned : List Stage → Request → List ℕ → Result Stage Refusal
+planned earlier request bytes = with_info earlier request (info_in bytes)
+
+abbrev pub stage_of_found : List Stage → Request → Option (List ℕ) → Option Stage
+stage_of_found earlier request None = None
+stage_of_found earlier request (Some bytes) = result_ok (planned earlier request bytes)
 
 abbrev pub stage_of_command : Option Command → Files → Option Stage
 stage_of_command None files = None
-stage_of_command (Some (Copy request)) files = stage_of_found request (file_at files (info_path request.source))
+stage_of_command (Some (Local request)) files = stage_of_found [] request (file_at files (info_path request.source))
 stage_of_command (Some (Enqueue q request)) files = None
 
 -- the stage that a call with these words runs itself, by the files at its entry

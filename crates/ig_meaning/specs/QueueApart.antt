@@ -1,6 +1,6 @@
--- What lies in a layer that is apart from a queue's directory is outside it; and what a planned copy is.
-use Rattle.std.specs.Prelude.{◌≡◌, ◌+◌, ℕ, suc, Bool, true, false, not, List, [], ◌∷◌, ◌++◌, length, take, Option, None, Some, Result, Ok, Err, slice_get, refl}
-use Rattle.std.proofs.Common.{arith, ap, sym, true≢false, ◌∙◌}
+-- What lies in a layer that is apart from a queue's directory is outside it; so does what is planned.
+use Rattle.std.specs.Prelude.{◌≡◌, ◌+◌, ℕ, suc, Bool, true, false, not, List, [], ◌∷◌, ◌++◌, length, take, Option, None, Some, Contains, Result, Ok, Err, slice_get, codes, refl}
+use Rattle.std.proofs.Common.{arith, ap, sym, subst, append_assoc, true≢false, ◌∙◌}
 use Rattle.std.proofs.lemmas.Bool.{and_parts}
 use Rattle.std.proofs.lemmas.Slice.Eq.{bytes_eq-Decides}
 use Rattle.std.specs.Str.{bytes_eq}
@@ -10,12 +10,18 @@ use Rattle.ig_info.specs.declared.scale.Scale.{Scale}
 use Rattle.ig_info.specs.Dest.{dest_of}
 use Rattle.ig_info.specs.Info.{InfoData}
 use Rattle.ig_info.specs.Reading.{info_in}
+use Rattle.ig_record.specs.declared.stage.InfoFile.{InfoFile}
+use Rattle.ig_record.specs.declared.stage.Kind.{Kind}
+use Rattle.ig_record.specs.declared.stage.Kind.TheVariants.{Xfer, Count}
 use Rattle.ig_record.specs.declared.stage.Stage.{Stage}
+use Rattle.ig_record.specs.Columns.{output_dirs}
+use Rattle.ig_record.specs.Sound.{counts_name}
 use Rattle.ig_rule.specs.Dirs.{IsOutside}
-use Rattle.ig_meaning.specs.Plan.{copy_stage, new_scale, planned, with_dest, with_info, with_scale}
+use Rattle.ig_meaning.specs.Plan.{copy_stage, new_scale, pass_stage, planned, planned_by, with_dest, with_info, with_scale}
 use Rattle.ig_meaning.specs.QueueWords.{holds, is_apart}
 use Rattle.ig_meaning.specs.Refusal.{Refusal}
-use Rattle.ig_meaning.specs.Words.{Request}
+use Rattle.ig_meaning.specs.TakenLaws.{the_only}
+use Rattle.ig_meaning.specs.Words.{Request, new_layer, writes_layer}
 
 -- ---- two directories that one path lies in
 
@@ -81,28 +87,72 @@ outside-layer q layer rest apart =
 
 -- ---- the stage that is planned
 
--- It is the copy of a scale of the source into a layer with one scale.
-pub record IsPlannedCopy (request : Request) (s : Stage) : Type 0 where
-  pub scale : Scale
-  pub new : Scale
-  pub info : InfoData
-  pub is : copy_stage request scale new info ≡ s
+-- The path lies in a layer of the request.
+pub data IsInLayers (request : Request) (path : List ℕ) : Type 0 where
+  in_source : (rest : List ℕ) → path ≡ joined request.source rest → IsInLayers request path
+  in_new : writes_layer request.kind ≡ true → (rest : List ℕ) → path ≡ joined (new_layer request) rest → IsInLayers request path
+
+-- The stage reads and writes in the layers of the request alone.
+pub record IsPlaced (request : Request) (s : Stage) : Type 0 where
+  pub source : IsInLayers request s.source.dir
+  pub outputs : (dir : List ℕ) → Contains (output_dirs s) dir → IsInLayers request dir
+  pub info : (info : InfoFile) → s.info ≡ Some info → IsInLayers request info.path
 
 ok_is : (s t : Stage) → ◌≡◌ {A = Result Stage Refusal} (Ok s) (Ok t) → s ≡ t
 ok_is s t e = cc
 
-from_dest : (request : Request) (scale new : Scale) (r : Result InfoData InfoError) (s : Stage) → with_dest request scale new r ≡ Ok s → IsPlannedCopy request s
-from_dest request scale new (Ok info) s e = record { scale = scale; new = new; info = info; is = ok_is (copy_stage request scale new info) s e }
-from_dest request scale new (Err cause) s e = absurd (cc)
+the_info : (info put : InfoFile) → Some put ≡ Some info → put ≡ info
+the_info info put e = cc
 
-from_scale : (request : Request) (info : InfoData) (found : Option Scale) (s : Stage) → with_scale request info found ≡ Ok s → IsPlannedCopy request s
-from_scale request info (Some scale) s e = from_dest request scale (new_scale request scale) (dest_of (new_scale request scale)) s e
-from_scale request info None s e = absurd (cc)
+copy-placed : (request : Request) → writes_layer request.kind ≡ true → (scale new : Scale) (info : InfoData) → IsPlaced request (copy_stage request scale new info)
+copy-placed request writes scale new data = record {
+  source = in_source scale.key refl;
+  outputs = λ dir among. in_new writes new.key (sym (the_only (joined (new_layer request) new.key) dir among));
+  info = λ info is. in_new writes (codes "info") (ap (λ (i : InfoFile). i.path) (sym (the_info info _ is)));
+}
 
-from_info : (request : Request) (r : Result InfoData InfoError) (s : Stage) → with_info request r ≡ Ok s → IsPlannedCopy request s
-from_info request (Ok info) s e = from_scale request info (slice_get info.scales request.mip) s e
-from_info request (Err cause) s e = absurd (cc)
+dest-placed : (request : Request) → writes_layer request.kind ≡ true → (scale new : Scale) (r : Result InfoData InfoError) (s : Stage) → with_dest request scale new r ≡ Ok s → IsPlaced request s
+dest-placed request writes scale new (Ok info) s e = subst (IsPlaced request) (ok_is (copy_stage request scale new info) s e) (copy-placed request writes scale new info)
+dest-placed request writes scale new (Err cause) s e = absurd (cc)
 
-pub planned-copy : (request : Request) (bytes : List ℕ) (s : Stage) → planned request bytes ≡ Ok s → IsPlannedCopy request s
+-- a directory of a pass
+joined-twice : (layer name key sub : List ℕ) → joined (joined (joined layer name) key) sub ≡ joined layer (joined (joined name key) sub)
+joined-twice layer name key sub =
+    ap (λ text. text ++ 47 ∷ sub) (append_assoc layer (47 ∷ name) (47 ∷ key)) ∙ append_assoc layer (47 ∷ (name ++ 47 ∷ key)) (47 ∷ sub)
+
+count-placed : (request : Request) (scale : Scale) → IsPlaced request (pass_stage Count counts_name request scale)
+count-placed request scale = record {
+  source = in_source scale.key refl;
+  outputs = λ dir among.
+      in_source (joined (joined counts_name scale.key) (codes "parts"))
+      (sym (the_only (joined (joined (joined request.source counts_name) scale.key) (codes "parts")) dir among) ∙ joined-twice request.source counts_name scale.key (codes "parts"));
+  info = λ info is. absurd (cc);
+}
+
+placed-by : (kind : Kind) (earlier : List Stage) (request : Request) (scale : Scale) (s : Stage) → request.kind ≡ kind → planned_by kind earlier request scale ≡ Ok s → IsPlaced request s
+placed-by Xfer earlier request scale s is e = dest-placed request (ap writes_layer is) scale (new_scale request scale) (dest_of (new_scale request scale)) s e
+placed-by Count earlier request scale s is e = subst (IsPlaced request) (ok_is (pass_stage Count counts_name request scale) s e) (count-placed request scale)
+placed-by kind earlier request scale s is e = absurd (cc)
+
+from_scale : (earlier : List Stage) (request : Request) (info : InfoData) (found : Option Scale) (s : Stage) → with_scale earlier request info found ≡ Ok s → IsPlaced request s
+from_scale earlier request info (Some scale) s e = placed-by request.kind earlier request scale s refl e
+from_scale earlier request info None s e = absurd (cc)
+
+from_info : (earlier : List Stage) (request : Request) (r : Result InfoData InfoError) (s : Stage) → with_info earlier request r ≡ Ok s → IsPlaced request s
+from_info earlier request (Ok info) s e = from_scale earlier request info (slice_get info.scales request.mip) s e
+from_info earlier request (Err cause) s e = absurd (cc)
+
+pub planned-placed : (earlier : List Stage) (request : Request) (bytes : List ℕ) (s : Stage) → planned earlier request bytes ≡ Ok s → IsPlaced request s
 unfolding planned
-planned-copy request bytes s e = from_info request (info_in bytes) s e
+planned-placed earlier request bytes s e = from_info earlier request (info_in bytes) s e
+
+-- ---- outside the queue
+
+-- The layers of the request are apart from the queue's directory.
+pub record AreLayersApart (q : List ℕ) (request : Request) : Type 0 where
+  pub source : is_apart q request.source ≡ true
+  pub dest : writes_layer request.kind ≡ true → is_apart q (new_layer request) ≡ true
+
+pub outside-layers : (q : List ℕ) (request : Request) (path : List ℕ) → AreLayersApart q request → IsInLayers request path → IsOutside q path
+outside-layers q request path apart (in_source rest is) = subst (IsOutside q) (sym is) (outside-layer q request.source rest apart.source)
+outside-layers q request path apart (in_new writes rest is) = subst (IsOutside q) (sym is) (outside-layer q (new_layer request) rest (apart.dest writes))

@@ -11,7 +11,7 @@ use Rattle.ig_record.specs.declared.stage.Stage.{Stage}
 use Rattle.ig_record.specs.Answers.{record_fault}
 use Rattle.ig_record.specs.Reading.{record_in}
 use Rattle.ig_meaning.specs.Refusal.{Refusal, BadRecord, Missing, TooManyStages}
-use Rattle.ig_meaning.specs.Making.{Making, Continues, New, Refused, Unfinished, given_by, lists, making_of_copy, reads, where_it_looks}
+use Rattle.ig_meaning.specs.Making.{Making, Continues, New, Refused, Unfinished, given_by, lists, making_of_request, reads, where_it_looks}
 use Rattle.ig_meaning.specs.Words.{Request}
 
 -- ---- where they stand
@@ -92,8 +92,8 @@ making_of_last q next (s ∷ stages) (m ∷ ms) =
 -- a new stage after these, which are all sealed
 abbrev pub making_of_new : Request → List Stage → List Moment → Making
 making_of_new request stages ms =
-    if nat_lt (length stages) (10 ^ 4) then making_of_copy stages (New (length stages)) request ms else Refused (TooManyStages (length stages))
+    if nat_lt (length stages) (10 ^ 4) then making_of_request stages (New (length stages)) request ms else Refused (TooManyStages (length stages))
 
--- The making of a copy in a queue: where its last stage is not sealed, that one is continued.
+-- The making of a stage in a queue: where its last stage is not sealed, that one is continued.
 abbrev pub making_of_enqueue : List ℕ → Request → List Moment → Making
 making_of_enqueue q request ms = making_of_queue q (making_of_last q (making_of_new request)) ms

@@ -2,6 +2,7 @@
 use Rattle.std.specs.Prelude.{ℕ, List}
 use Rattle.ig_info.specs.declared.error.InfoError.{InfoError}
 use Rattle.ig_layer.specs.Faults.{Cause, Fault, Absent, Damaged}
+use Rattle.ig_record.specs.declared.stage.Kind.{Kind}
 
 pub data Refusal : Type 0 where
   Missing : (path : List ℕ) → Refusal
@@ -16,6 +17,7 @@ pub data Refusal : Type 0 where
   BadRecord : (path member : List ℕ) → Refusal
   TooManyStages : (count : ℕ) → Refusal
   Taken : (stage : ℕ) → Refusal
+  NoStage : (kind : Kind) → Refusal
 
 -- what is wrong with a chunk, as a refusal
 abbrev pub refusal_of : Fault → Refusal

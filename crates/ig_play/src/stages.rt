@@ -44,6 +44,7 @@ fn say_all(told: &mut Told, alloc: Global, word: &str, list: &Paths) -> Result<(
 }
 
 /// The kind, the number of tasks and the directories.
+#[tactic(auto, using(ig_record::specs::SoundStages::scratch_of_sound))]
 fn stage_told(alloc: Global, stage: &Stage) -> Result<Told, AllocError>
     requires { is_sound stage.now ≡ true }
 {

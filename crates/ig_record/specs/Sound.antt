@@ -150,7 +150,7 @@ has_come Faces = false
 has_come Links = false
 has_come Labels = false
 has_come Relabel = false
-has_come Count = false
+has_come Count = true
 has_come Sum = false
 has_come Remove = true
 

@@ -200,6 +200,7 @@ row_of s layer key fits l k (of_remove is none r) = row-empty s fits r (chunk-un
 -- A sound stage is of one of these. Each kind that comes adds its line here, and so owes what is proved by these cases above.
 pub data IsSoundKind (s : Stage) : Type 0 where
   is_xfer : s.kind ≡ Xfer → s.scratch ≡ None → IsCopyOf s.source s.dests s.info → IsSoundKind s
+  is_count : s.kind ≡ Count → (scratch : List ℕ) → s.scratch ≡ Some scratch → IsRemoval s.dests s.info → IsSoundKind s
   is_remove : s.kind ≡ Remove → s.scratch ≡ None → IsRemoval s.dests s.info → IsSoundKind s
 
 not-come : (s : Stage) (kind : Kind) → s.kind ≡ kind → has_come s.kind ≡ true → has_come kind ≡ true
@@ -213,5 +214,5 @@ come-kind s layer key come (of_faces is at r) = absurd (true≢false (sym (not-c
 come-kind s layer key come (of_links is at r) = absurd (true≢false (sym (not-come s Links is come)))
 come-kind s layer key come (of_labels is at r) = absurd (true≢false (sym (not-come s Labels is come)))
 come-kind s layer key come (of_relabel is at n) = absurd (true≢false (sym (not-come s Relabel is come)))
-come-kind s layer key come (of_count is at r) = absurd (true≢false (sym (not-come s Count is come)))
+come-kind s layer key come (of_count is at r) = is_count is (joined (joined layer counts_name) key) at r
 come-kind s layer key come (of_sum is at r) = absurd (true≢false (sym (not-come s Sum is come)))

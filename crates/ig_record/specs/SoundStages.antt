@@ -158,3 +158,7 @@ tasks-IsGrid s fits shape =
 
 pub task-within : (s : Stage) (k : ℕ) → is_sound s ≡ true → k < task_count s → IsWithin (task_box s k) (space_of s.source.geometry)
 task-within s k h below = let is = IsSound-from s h in cell-within (task_grid s) (tasks-IsGrid s is.fits is.shape.sides) k below
+
+-- ---- its scratch
+pub scratch_of_sound : (s : Stage) → is_sound s ≡ true → IfSome s.scratch IsScratch
+scratch_of_sound s h = (IsSound-from s h).layers.row.keeps

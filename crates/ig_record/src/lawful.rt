@@ -152,8 +152,8 @@ pub(crate) fn has_come(kind: Kind) -> bool
     ensures { result ≡ has_come kind }
 {
     match kind {
-        Kind::Xfer | Kind::Remove => true,
+        Kind::Xfer | Kind::Count | Kind::Remove => true,
         Kind::Downsample | Kind::Faces | Kind::Links | Kind::Labels => false,
-        Kind::Relabel | Kind::Count | Kind::Sum => false,
+        Kind::Relabel | Kind::Sum => false,
     }
 }

@@ -48,9 +48,8 @@ fn dir_under(alloc: Global, scratch: &Option<Path>, name: &str) -> Result<Paths,
 }
 
 /// The output directories: all that a stage writes lies directly in one of them.
-#[tactic(auto, using(crate::proofs::TaskCounts::sound_scratch))]
 pub fn dirs(alloc: Global, stage: &Stage) -> Result<Paths, AllocError>
-    requires { is_sound stage.now ≡ true }
+    requires { IfSome stage.now.scratch IsScratch }
     ensures { IfOk result (λ paths. paths ≡ output_dirs stage.now) }
 {
     match stage.kind {

@@ -10,6 +10,7 @@ use Rattle.ig_defs.specs.Own.{Moment, steps_since}
 use Rattle.ig_defs.specs.QueueNames.{stage_fits}
 use Rattle.ig_meaning.specs.Ending.{Ending, Finished, Refuses, StoreFailed, NoMemory}
 use Rattle.ig_meaning.specs.Making.{Making, Continues, New, given_by, lists, reads, where_it_looks}
+use Rattle.ig_meaning.specs.Plan.{info_path}
 use Rattle.ig_meaning.specs.QueueMaking.{if_found, if_sealed, last_of, making_of_enqueue, making_of_last, making_of_new, making_of_queue, making_of_records, making_of_texts, record_count, record_path, seal_path, stages_dir}
 use Rattle.ig_meaning.specs.Words.{Request}
 use Rattle.ig_record.specs.declared.stage.Stage.{Stage}
@@ -30,9 +31,9 @@ use Rattle.ig_stage.proofs.Enqueues.{new_few}
 use Rattle.ig_stage.proofs.KnownRecords.{in_queue}
 use Rattle.ig_stage.proofs.KnownStages.{held}
 use Rattle.ig_stage.proofs.Lookings.{look_only}
-use Rattle.ig_stage.proofs.NotRefused.{Finds, IsFree, finds_from, free_copy, free_not_refused, free_where}
+use Rattle.ig_stage.proofs.NotRefused.{Finds, IsFree, finds_from, free_not_refused, free_request, free_where}
 use Rattle.ig_stage.proofs.OthersLooks.{finds_same, own_look}
-use Rattle.ig_stage.proofs.SameStages.{AreRead, length_read, unfit_same}
+use Rattle.ig_stage.proofs.SameStages.{AreRead, length_read, planned_same, unfit_same}
 
 free_found : (path : List ℕ) (found : Option (List ℕ)) (text : List ℕ) (next : List ℕ → Making) → found ≡ Some text → IsFree (next text) → IsFree (if_found path found next)
 free_found path found text next is free = subst (λ o. IsFree (if_found path o next)) (sym is) free
@@ -126,7 +127,8 @@ free_new : (q : List ℕ) (request : Request) (stages : List Stage) (files : Fil
 free_new q request stages files c read same ms finds =
     let few : length read < 10 ^ 4 = omega (arith, length_read 0 read stages same, c.few) in
     subst IsFree (sym (new_few request read few ms))
-    (free_copy read (New (length read)) (λ s after. tt) files request c.stage c.no_info (unfit_same read stages c.stage same ∙ c.fits) c.no_names ms c.planned finds)
+    (free_request read (New (length read)) (λ s after. tt) files request c.stage c.no_info (unfit_same read stages c.stage same ∙ c.fits) c.no_names ms
+    (planned_same read stages same request (file_at files (info_path request.source)) ∙ c.planned) finds)
 
 free_enqueue : (q : List ℕ) (request : Request) (files : Files) → is_path q ≡ true → length q ≤ 100 → CanMake q request files → (ms : List Moment) → Finds files ms → IsFree (making_of_enqueue q request ms)
 free_enqueue q request files path short (continues_last stages k lacks) ms finds =

@@ -8,8 +8,9 @@ use Rattle.ig_defs.specs.declared.step.Act.{Act}
 use Rattle.ig_defs.specs.Files.{Files}
 use Rattle.ig_defs.specs.Log.{Log, files_of}
 use Rattle.ig_defs.specs.Own.{Moment}
-use Rattle.ig_meaning.specs.Making.{Making, New, Refused, making_of_copy}
+use Rattle.ig_meaning.specs.Making.{Making, New, Refused, making_of_request}
 use Rattle.ig_meaning.specs.QueueMaking.{making_of_new}
+use Rattle.ig_meaning.specs.QueueApart.{AreLayersApart}
 use Rattle.ig_meaning.specs.QueueWords.{is_apart}
 use Rattle.ig_meaning.specs.Refusal.{TooManyStages}
 use Rattle.ig_meaning.specs.Taken.{taken_by}
@@ -25,12 +26,12 @@ use Rattle.ig_task.specs.Kinds.{kinds}
 use Rattle.ig_task.specs.Maker.{KeepsStages}
 use Rattle.ig_task.specs.MakerLaws.{stages_went}
 use Rattle.ig_task.specs.Pipeline.{is_allowed}
-use Rattle.ig_task.specs.Rooms.{outside-copy}
+use Rattle.ig_task.specs.Rooms.{outside-planned}
 use Rattle.ig_task.specs.declared.pipeline.Pipeline.{Pipeline}
 use Rattle.ig_stage.specs.Drafts.{CanRun}
 use Rattle.ig_stage.specs.Free.{IsFree, IsPlanned}
 use Rattle.ig_stage.specs.Looking.{Looks}
-use Rattle.ig_stage.specs.Made.{AreLayersApart, AreMaking, LooksFirst, MakesBy, MayRecord}
+use Rattle.ig_stage.specs.Made.{AreMaking, LooksFirst, MakesBy, MayRecord}
 use Rattle.ig_stage.specs.Open.{maker_rule}
 use Rattle.ig_stage.specs.Recorded.{FindsSeal, by_seal, continues}
 use Rattle.ig_stage.specs.declared.enqueuing.Made.{Made}
@@ -66,7 +67,7 @@ by_test test x y e = ap (λ b. if b then x else y) e
 by_failed : (test : Bool) (x y : Making) → test ≡ false → (if test then x else y) ≡ y
 by_failed test x y e = ap (λ b. if b then x else y) e
 
-pub new_few : (request : Request) (stages : List Stage) → length stages < 10 ^ 4 → (ms : List Moment) → making_of_new request stages ms ≡ making_of_copy stages (New (length stages)) request ms
+pub new_few : (request : Request) (stages : List Stage) → length stages < 10 ^ 4 → (ms : List Moment) → making_of_new request stages ms ≡ making_of_request stages (New (length stages)) request ms
 new_few request stages few ms = by_test (nat_lt (length stages) (10 ^ 4)) _ _ (lt-ltb (length stages) (10 ^ 4) few)
 
 pub too_many : (allows : Bool → Files → Act → Type 0) (q : List ℕ) (request : Request) (stages : List Stage) (log : Log) (n : ℕ) → n ≡ length stages → 10 ^ 4 ≤ n
@@ -85,7 +86,7 @@ too_many allows q request stages log n number many =
 pub may_record : {T : Type 0} (rule next : Pipeline) (q : List ℕ) (n : ℕ) (stages : List Stage) (s : Stage) (request : Request) (making : List Moment → Making) (next_making : T → List Moment → Making)
     (old mid : Log) (result : Result T MakeError) → rule ≡ maker_rule q → next ≡ rule → n ≡ length stages → length stages < 10 ^ 4 → AreLayersApart q request → All (λ t. is_sound t ≡ true) stages
     → FindsSeal q stages (files_of old) true → Legal stage_reader q old → Looks (is_allowed rule) making next_making old mid result
-    → CanRun s → IsPlanned request s → taken_by stages s ≡ None → IsFree q stages s (files_of mid) → MayRecord next q n stages s mid
+    → CanRun s → IsPlanned stages request s → taken_by stages s ≡ None → IsFree q stages s (files_of mid) → MayRecord next q n stages s mid
 may_record {T = T} rule next q n stages s request making next_making old mid result is same number few layers all finds legal looks can planned not_taken free = record {
   is = same ∙ is;
   legal = looks_legal {T = T} rule q making next_making old mid result is looks legal;
@@ -97,7 +98,7 @@ may_record {T = T} rule next q n stages s request making next_making old mid res
     sound = can.sound;
     makes = can.makes;
     not_taken = not_taken;
-    outside = outside-copy q request planned.bytes s (length stages) planned.is layers.source layers.dest;
+    outside = outside-planned q stages request planned.bytes s (length stages) planned.is layers;
     few = few;
   };
 }
@@ -129,7 +130,9 @@ finds_as q stages files found sealed is finds = subst (FindsSeal q stages files)
 pub layers_apart : (q : List ℕ) (want : Wanted) → HasLimits want → is_apart q want.source ≡ true → IfSome want.dest (λ dest. is_apart q dest ≡ true) → AreLayersApart q (shown_request want)
 layers_apart q want limits source dest = record {
   source = source;
-  dest = ap (is_apart q) (layer_of want limits) ∙ subst (λ o. IfSome o (λ d. is_apart q d ≡ true)) limits.dest_is dest;
+  dest = λ writes.
+      let d = limits.dest writes in
+      ap (is_apart q) (layer_of want d) ∙ subst (λ o. IfSome o (λ d. is_apart q d ≡ true)) d.is dest;
 }
 
 -- each of these stages is sound

@@ -1,26 +1,26 @@
 -- What a maker knows of the place of a new stage once it has looked.
 use Rattle.std.proofs.Common.{arith, inl, inr, ◌⊎◌, ◌≡◌, ◌<◌, ◌≤◌, ◌+◌, ◌∙◌, ℕ, Bool, true, false, List, [], ◌∷◌, Option, None, Some, is_some, Contains, length, slice_get, get_or, codes, Result, refl, ap, sym, subst, true≢false}
 use Rattle.std.specs.Prelude.{option_map}
-use Rattle.std.proofs.lemmas.Option.{get_or_from_slice_get, slice_get_within}
+use Rattle.std.proofs.lemmas.Option.{get_or_from_slice_get, slice_get-get_or}
 use Rattle.ig_defs.specs.declared.step.Step.{Step}
 use Rattle.ig_defs.specs.Files.{Files, file_at}
 use Rattle.ig_defs.specs.Log.{Log, ByOthers, after, files_of}
 use Rattle.ig_defs.specs.Names.{StandsThroughout}
 use Rattle.ig_defs.specs.Own.{Moment}
-use Rattle.ig_meaning.specs.Making.{Making}
+use Rattle.ig_meaning.specs.Making.{Making, info_if}
 use Rattle.ig_meaning.specs.Jobs.{file_of}
-use Rattle.ig_meaning.specs.QueueWords.{is_apart}
+use Rattle.ig_meaning.specs.QueueApart.{AreLayersApart}
 use Rattle.ig_meaning.specs.Taken.{taken_by}
-use Rattle.ig_meaning.specs.TakenLaws.{HasNoneOf, none_in, not_taken, the_only}
+use Rattle.ig_meaning.specs.TakenLaws.{HasNoneOf, none_in, not_taken}
 use Rattle.ig_meaning.specs.Words.{Request}
 use Rattle.ig_record.specs.declared.stage.InfoFile.{InfoFile}
 use Rattle.ig_record.specs.declared.stage.Kind.{Kind}
-use Rattle.ig_record.specs.declared.stage.Kind.TheVariants.{Xfer, Remove}
+use Rattle.ig_record.specs.declared.stage.Kind.TheVariants.{Remove}
 use Rattle.ig_record.specs.declared.stage.Stage.{Stage}
 use Rattle.ig_record.specs.Sound.{is_sound}
 use Rattle.ig_record.specs.SoundRows.{IsSoundKind, is_xfer, is_remove}
 use Rattle.ig_record.specs.SoundStages.{sound-kind}
-use Rattle.ig_record.specs.Columns.{dirs_by, dirs_of_all, output_dirs, removed_by, removed_dir}
+use Rattle.ig_record.specs.Columns.{needs_fresh_info, output_dirs, removed_by, removed_dir}
 use Rattle.ig_rule.specs.Dirs.{LiesIn}
 use Rattle.ig_rule.specs.DirPaths.{dir_is, dir_within, listed_in}
 use Rattle.ig_rule.specs.Facts.{IsInfoName, IsPath, StageLaws}
@@ -32,13 +32,12 @@ use Rattle.ig_defs.specs.Turns.{Listed}
 use Rattle.ig_rule.specs.WentOn.{went_of}
 use Rattle.ig_rule.specs.Went.{Went}
 use Rattle.ig_space.specs.Path.{joined}
-use Rattle.ig_space.specs.declared.place.Place.{Place}
 use Rattle.ig_task.specs.Facts.{facts_of, stage_reader}
 use Rattle.ig_task.specs.Kinds.{kinds}
 use Rattle.ig_task.specs.Maker.{IsPathOfNone, KnowsStages, Others}
 use Rattle.ig_task.specs.MakerLaws.{KnowsFile, file_keeps, knows_went, same_file}
 use Rattle.ig_task.specs.Pipeline.{is_allowed}
-use Rattle.ig_task.specs.Rooms.{outside-copy}
+use Rattle.ig_task.specs.Rooms.{outside-planned}
 use Rattle.ig_task.specs.declared.pipeline.Pipeline.{Pipeline}
 use Rattle.ig_stage.specs.Drafts.{CanRun}
 use Rattle.ig_stage.specs.Free.{AreEmptyDirs, HasNoInfo, IsEmptyDir, IsFree, IsPlanned, KnowsQueue}
@@ -162,18 +161,18 @@ module _ {T : Type 0} (rule : Pipeline) (q : List ℕ) (stages : List Stage) (ma
 -- ---- all directories
 
 -- the stages are known, and the first n directories are empty
-pub record EmptySoFar (rule : Pipeline) (q : List ℕ) (stages : List Stage) (dests : List Place) (n : ℕ) (files : Files) : Type 0 where
+pub record EmptySoFar (rule : Pipeline) (q : List ℕ) (stages : List Stage) (dirs : List (List ℕ)) (n : ℕ) (files : Files) : Type 0 where
   pub knows : KnowsQueue rule q stages files
-  pub empty : (k : ℕ) (dest : Place) → k < n → slice_get dests k ≡ Some dest → IsEmptyDir q stages dest.dir files
+  pub empty : (k : ℕ) (dir : List ℕ) → k < n → slice_get dirs k ≡ Some dir → IsEmptyDir q stages dir files
 
-pub none_empty : (rule : Pipeline) (q : List ℕ) (stages : List Stage) (dests : List Place) (files : Files) → KnowsQueue rule q stages files → EmptySoFar rule q stages dests 0 files
-none_empty rule q stages dests files knows = record { knows = knows; empty = λ k dest below is. absurd (omega (arith, below)) }
+pub none_empty : (rule : Pipeline) (q : List ℕ) (stages : List Stage) (dirs : List (List ℕ)) (files : Files) → KnowsQueue rule q stages files → EmptySoFar rule q stages dirs 0 files
+none_empty rule q stages dirs files knows = record { knows = knows; empty = λ k dir below is. absurd (omega (arith, below)) }
 
 -- one more is
-pub one_more_empty : {T : Type 0} (rule now : Pipeline) (q : List ℕ) (stages : List Stage) (dests : List Place) (n : ℕ) (making : List Moment → Making) (next : T → List Moment → Making)
-    (old new : Log) (result : Result T MakeError) (dest : Place) → now ≡ rule → n < length dests → dest ≡ get_or dests n dest → EmptySoFar rule q stages dests n (files_of old)
-    → Looks (is_allowed now) making next old new result → (KnowsQueue now q stages (files_of old) → IsEmptyDir q stages dest.dir (files_of new)) → EmptySoFar rule q stages dests (n + 1) (files_of new)
-one_more_empty {T = T} rule now q stages dests n making next old new result dest same below is so looks empty =
+pub one_more_empty : {T : Type 0} (rule now : Pipeline) (q : List ℕ) (stages : List Stage) (dirs : List (List ℕ)) (n : ℕ) (making : List Moment → Making) (next : T → List Moment → Making)
+    (old new : Log) (result : Result T MakeError) (dir : List ℕ) → now ≡ rule → n < length dirs → dir ≡ get_or dirs n dir → EmptySoFar rule q stages dirs n (files_of old)
+    → Looks (is_allowed now) making next old new result → (KnowsQueue now q stages (files_of old) → IsEmptyDir q stages dir (files_of new)) → EmptySoFar rule q stages dirs (n + 1) (files_of new)
+one_more_empty {T = T} rule now q stages dirs n making next old new result dir same below is so looks empty =
     let here = subst (λ r. KnowsQueue r q stages (files_of old)) (sym same) so.knows in
     record {
       knows = subst (λ r. KnowsQueue r q stages (files_of new)) same (looks_know {T = T} now q stages making next old new result looks here);
@@ -183,49 +182,40 @@ one_more_empty {T = T} rule now q stages dests n making next old new result dest
     nat_cases : (k n : ℕ) → k < n + 1 → (k < n) ⊎ (k ≡ n)
     nat_cases k n under = grind arith
 
-    by_place : (k : ℕ) (other : Place) → slice_get dests k ≡ Some other → (k < n) ⊎ (k ≡ n) → IsEmptyDir q stages other.dir (files_of new)
+    by_place : (k : ℕ) (other : List ℕ) → slice_get dirs k ≡ Some other → (k < n) ⊎ (k ≡ n) → IsEmptyDir q stages other (files_of new)
     by_place k other at (inl under) =
-        empty_still {T = T} now q stages making next old new result looks (subst (λ r. KnowsQueue r q stages (files_of old)) (sym same) so.knows) other.dir (so.empty k other under at)
+        empty_still {T = T} now q stages making next old new result looks (subst (λ r. KnowsQueue r q stages (files_of old)) (sym same) so.knows) other (so.empty k other under at)
     by_place k other at (inr e) =
-        let one : dest ≡ other = is ∙ get_or_from_slice_get dests n other dest (ap (slice_get dests) (sym e) ∙ at) in
-        subst (λ (d : Place). IsEmptyDir q stages d.dir (files_of new)) one (empty (subst (λ r. KnowsQueue r q stages (files_of old)) (sym same) so.knows))
+        let one : dir ≡ other = is ∙ get_or_from_slice_get dirs n other dir (ap (slice_get dirs) (sym e) ∙ at) in
+        subst (λ d. IsEmptyDir q stages d (files_of new)) one (empty (subst (λ r. KnowsQueue r q stages (files_of old)) (sym same) so.knows))
 
-pub all_empty : (rule : Pipeline) (q : List ℕ) (stages : List Stage) (dests : List Place) (n : ℕ) (files : Files) → length dests ≤ n → EmptySoFar rule q stages dests n files
-    → AreEmptyDirs q stages dests files
-all_empty rule q stages dests n files over so = λ k dest is.
-    let within = slice_get_within dests k dest is in
-    so.empty k dest (omega (arith, over, within)) is
+pub all_empty : (rule : Pipeline) (q : List ℕ) (stages : List Stage) (dirs : List (List ℕ)) (n : ℕ) (files : Files) → length dirs ≤ n → EmptySoFar rule q stages dirs n files
+    → AreEmptyDirs q stages dirs files
+all_empty rule q stages dirs n files over so dir (k, within, is) =
+    so.empty k dir (omega (arith, over, within)) (slice_get-get_or dirs k dir within ∙ ap Some is)
 
 -- ---- the new stage
 
-dirs_of_copy : (s : Stage) (dest : Place) → s.kind ≡ Xfer → s.dests ≡ dest ∷ [] → output_dirs s ≡ dest.dir ∷ []
-dirs_of_copy s dest copies one = ap (λ kind. dirs_by kind s) copies ∙ ap dirs_of_all one
-
--- it writes one scale
-record IsOneDest (s : Stage) : Type 0 where
-  dest : Place
-  dests : s.dests ≡ dest ∷ []
-  dirs : output_dirs s ≡ dest.dir ∷ []
-
-one_dest : (s : Stage) → IsSoundKind s → is_some (removed_dir s) ≡ false → IsOneDest s
-one_dest s (is_xfer is none c) makes = record { dest = c.dest; dests = c.dests_are; dirs = dirs_of_copy s c.dest is c.dests_are }
-one_dest s (is_remove is none r) makes = absurd (true≢false (sym (ap (λ kind. is_some (removed_by kind s)) is) ∙ makes))
+-- the info that has to be new is the stage's
+is_info : (b : Bool) (own : Option InfoFile) (info : InfoFile) → info_if b own ≡ Some info → own ≡ Some info
+is_info true own info is = is
+is_info false own info is = let no_way : ⊥ = cc in absurd no_way
 
 -- Where the info was not there and its directories are empty, its place is free.
 pub is_free : {T : Type 0} (request : Request) (rule now : Pipeline) (q : List ℕ) (stages : List Stage) (s : Stage) (making : List Moment → Making) (next : T → List Moment → Making)
-    (old new : Log) (result : Result T MakeError) → now ≡ rule → is_apart q request.source ≡ true → is_apart q request.dest ≡ true → IsPlanned request s → CanRun s → taken_by stages s ≡ None
+    (old new : Log) (result : Result T MakeError) → now ≡ rule → AreLayersApart q request → IsPlanned stages request s → CanRun s → taken_by stages s ≡ None
     → KnowsQueue rule q stages (files_of old) → Looks (is_allowed now) making next old new result → HasNoInfo s (files_of old)
-    → (KnowsQueue now q stages (files_of old) → AreEmptyDirs q stages s.dests (files_of new)) → IsFree q stages s (files_of new)
-is_free {T = T} request rule now q stages s making next old new result same source dest planned can free k looks fresh empty = record {
+    → (KnowsQueue now q stages (files_of old) → AreEmptyDirs q stages (output_dirs s) (files_of new)) → IsFree q stages s (files_of new)
+is_free {T = T} request rule now q stages s making next old new result same layers planned can free k looks fresh empty = record {
   knows = (looks_know {T = T} now q stages making next old new result looks here).knows;
   no_info = λ info has.
+      let own = is_info (needs_fresh_info s.kind) s.info info has in
       looks_same {T = T} now q stages making next old new result looks here info.path
-      (info_apart q s 0 outside info has)
-      (info_of_none q stages (files_of old) k.knows s free info has (named_info s info can.sound has))
+      (info_apart q s 0 outside info own)
+      (info_of_none q stages (files_of old) k.knows s free info own (named_info s info can.sound own))
       ∙ fresh info has;
   empty = λ path l.
-      empty here 0 one.dest (ap (λ dests. slice_get dests 0) one.dests) path
-      (subst (λ d. LiesIn d path) (sym (the_only one.dest.dir l.dir (subst (λ among. Contains among l.dir) one.dirs l.one))) l.lies)
+      empty here l.dir l.one path l.lies
       (λ x. no_queue_path q l.dir path x (outside.outputs l.dir l.one) l.lies)
       (output_of_none q stages (files_of old) k.knows s free l.dir path l.one l.lies);
 }
@@ -234,7 +224,4 @@ is_free {T = T} request rule now q stages s making next old new result same sour
     here = subst (λ r. KnowsQueue r q stages (files_of old)) (sym same) k
 
     outside : IsOutsideQueue q (facts_of 0 s)
-    outside = outside-copy q request planned.bytes s 0 planned.is source dest
-
-    one : IsOneDest s
-    one = one_dest s (sound-kind s can.sound) can.makes
+    outside = outside-planned q stages request planned.bytes s 0 planned.is layers

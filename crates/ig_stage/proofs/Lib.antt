@@ -2,6 +2,7 @@ pub mod Dids
 pub mod Turns
 pub mod OthersLooks
 pub mod InfoTexts
+pub mod Members
 pub mod Drafts
 pub mod Sounds
 pub mod Makings

@@ -6,7 +6,7 @@ use Rattle.ig_defs.specs.Files.{Files, file_at}
 use Rattle.ig_defs.specs.Log.{Log, files_of}
 use Rattle.ig_defs.specs.Own.{Moment}
 use Rattle.ig_meaning.specs.Ending.{Ending, Finished, Refuses, StoreFailed, NoMemory}
-use Rattle.ig_meaning.specs.Making.{Making, Refused, making_of_copy, making_of_info, making_of_plan, making_of_source, where_it_looks}
+use Rattle.ig_meaning.specs.Making.{Making, Refused, fresh_info, making_of_request, making_of_info, making_of_plan, making_of_source, where_it_looks}
 use Rattle.ig_meaning.specs.Plan.{info_path, planned}
 use Rattle.ig_meaning.specs.Refusal as refusal
 use Rattle.ig_meaning.specs.Words.{Request}
@@ -22,30 +22,30 @@ use Rattle.ig_stage.proofs.Lookings.{looks_nowhere, looks_once, reads_it}
 module _ (allows : Bool → Files → Act → Type 0) (earlier : List Stage) (planned_as : Stage → List Moment → Making) where
   -- what comes once the source's info was read
   abbrev pub plans : Request → List ℕ → List Moment → Making
-  plans request bytes = making_of_plan earlier planned_as (planned request bytes)
+  plans request bytes = making_of_plan earlier planned_as (planned earlier request bytes)
 
   -- what comes once the stage is planned
   abbrev pub infos : Stage → List Moment → Making
-  infos s = making_of_info earlier planned_as s s.info
+  infos s = making_of_info earlier planned_as s (fresh_info s)
 
   looks_at : (request : Request) (path : List ℕ) (files : Files) (rest : List Moment) (found : Option (List ℕ)) → path ≡ info_path request.source → found ≡ file_at files path
-      → making_of_copy earlier planned_as request (record { files = files; act = act.Read path } ∷ rest) ≡ making_of_source earlier planned_as request found rest
+      → making_of_request earlier planned_as request (record { files = files; act = act.Read path } ∷ rest) ≡ making_of_source earlier planned_as request found rest
   looks_at request path files rest found is finds =
       ap (λ b. where_it_looks b (making_of_source earlier planned_as request (file_at files (info_path request.source)) rest)) (reads_it (info_path request.source) path is)
       ∙ ap (λ f. making_of_source earlier planned_as request f rest) (ap (file_at files) (sym is) ∙ sym finds)
 
   -- the source's info was found
   pub found_source : (old new : Log) (request : Request) (path bytes : List ℕ) → path ≡ info_path request.source → Acted allows old new (act.Read path) → Some bytes ≡ file_at (files_of new) path
-      → Looks allows (making_of_copy earlier planned_as request) (plans request) old new (Ok bytes)
+      → Looks allows (making_of_request earlier planned_as request) (plans request) old new (Ok bytes)
   found_source old new request path bytes is acted found =
-      looks_once allows (making_of_copy earlier planned_as request) (plans request) old new (Ok bytes) path acted
+      looks_once allows (making_of_request earlier planned_as request) (plans request) old new (Ok bytes) path acted
       (λ rest. looks_at request path (files_of new) rest (Some bytes) is found)
 
   -- it isn't there
   pub missed_source : (old new : Log) (request : Request) (path : List ℕ) → path ≡ info_path request.source → Acted allows old new (act.Read path) → None ≡ file_at (files_of new) path
-      → Looks allows (making_of_copy earlier planned_as request) (plans request) old new (Err (Missing path))
+      → Looks allows (making_of_request earlier planned_as request) (plans request) old new (Err (Missing path))
   missed_source old new request path is acted none =
-      looks_once allows (making_of_copy earlier planned_as request) (plans request) old new (Err (Missing path)) path acted
+      looks_once allows (making_of_request earlier planned_as request) (plans request) old new (Err (Missing path)) path acted
       (λ rest. looks_at request path (files_of new) rest None is none ∙ ap (λ p. Refused (refusal.Missing p)) (sym is))
 
   -- a plan takes no step

@@ -1,6 +1,5 @@
 -- What looking at the new layer tells of the making.
 use Rattle.std.proofs.Common.{◌≡◌, ℕ, ◌+◌, ◌<◌, ◌≤◌, zero, suc, Bool, false, true, List, [], ◌∷◌, length, drop, get_or, Option, None, Some, slice_get, Result, Ok, Err, refl, ap, subst, sym, ◌∙◌, is_some, arith}
-use Rattle.ig_space.specs.declared.place.Place.{Place}
 use Rattle.ig_space.specs.Path.{joined}
 use Rattle.ig_defs.specs.declared.step.Act.{Act}
 use Rattle.ig_defs.specs.declared.step.Act.TheVariants as act
@@ -9,11 +8,12 @@ use Rattle.ig_defs.specs.Files.{Files, file_at}
 use Rattle.ig_defs.specs.Log.{Log, files_of}
 use Rattle.ig_defs.specs.Own.{Moment, steps_since}
 use Rattle.ig_meaning.specs.Ending.{Ending, Finished, Refuses, StoreFailed, NoMemory}
-use Rattle.ig_meaning.specs.Making.{Making, Refused, making_of_dirs, making_of_fit, making_of_found, making_of_info, making_of_names, reads, where_it_looks}
+use Rattle.ig_meaning.specs.Making.{Making, Refused, fresh_info, making_of_dirs, making_of_fit, making_of_found, making_of_info, making_of_names, reads, where_it_looks}
 use Rattle.ig_meaning.specs.Refusal as refusal
 use Rattle.ig_meaning.specs.Taken.{unfit_after}
 use Rattle.ig_record.specs.declared.stage.InfoFile.{InfoFile}
 use Rattle.ig_record.specs.declared.stage.Stage.{Stage}
+use Rattle.ig_record.specs.Columns.{output_dirs}
 use Rattle.ig_defs.specs.Turns.{Acted, Idled, Listed}
 use Rattle.ig_stage.specs.Errors.{ending_of_make, make_error_of}
 use Rattle.ig_stage.specs.Looking.{AreNames, IsErrorOf, Looks, OthersLook}
@@ -47,12 +47,12 @@ empty_from_none (x ∷ xs) none = let no_item : ⊥ = cc in absurd no_item
 
 module _ (allows : Bool → Files → Act → Type 0) (earlier : List Stage) (planned_as : Stage → List Moment → Making) where
   -- what is left is to look at these directories
-  abbrev pub dirs_left : Stage → List Place → Unit {0} → List Moment → Making
-  dirs_left s dests x = making_of_dirs earlier planned_as s dests
+  abbrev pub dirs_left : Stage → List (List ℕ) → Unit {0} → List Moment → Making
+  dirs_left s dirs x = making_of_dirs earlier planned_as s dirs
 
   -- what is left is to look at all directories
   abbrev pub dirs : Stage → Unit {0} → List Moment → Making
-  dirs s = dirs_left s s.dests
+  dirs s = dirs_left s (output_dirs s)
 
   -- what is left to judge is whether the stage fits
   abbrev pub fit : Stage → Unit {0} → List Moment → Making
@@ -67,85 +67,85 @@ module _ (allows : Bool → Files → Act → Type 0) (earlier : List Stage) (pl
   looks_at_info files s path rest found is =
       ap (λ b. where_it_looks b (at s path (is_some (file_at files path)) rest)) (reads_it path path refl) ∙ ap (λ b. at s path b rest) (sym is)
 
-  module _ (old new : Log) (s : Stage) (info : InfoFile) (has : s.info ≡ Some info) where
+  module _ (old new : Log) (s : Stage) (info : InfoFile) (has : fresh_info s ≡ Some info) where
     info_looks : (result : Result (Unit {0}) MakeError) → Looks allows (making_of_info earlier planned_as s (Some info)) (dirs s) old new result
-        → Looks allows (making_of_info earlier planned_as s s.info) (dirs s) old new result
+        → Looks allows (making_of_info earlier planned_as s (fresh_info s)) (dirs s) old new result
     info_looks result = subst (λ (i : Option InfoFile). Looks allows (making_of_info earlier planned_as s i) (dirs s) old new result) (sym has)
 
     -- it is not there
     pub info_absent : (found : Bool) → found ≡ false → Acted allows old new (act.Read info.path) → found ≡ is_some (file_at (files_of new) info.path)
-        → Looks allows (making_of_info earlier planned_as s s.info) (dirs s) old new done
+        → Looks allows (making_of_info earlier planned_as s (fresh_info s)) (dirs s) old new done
     info_absent found absent acted is =
         info_looks done (looks_once allows (making_of_info earlier planned_as s (Some info)) (dirs s) old new done info.path acted
         (λ rest. looks_at_info (files_of new) s info.path rest false (sym absent ∙ is)))
 
     -- or it is
     pub info_present : (found : Bool) (path : List ℕ) → found ≡ true → path ≡ info.path → Acted allows old new (act.Read info.path) → found ≡ is_some (file_at (files_of new) info.path)
-        → Looks allows (making_of_info earlier planned_as s s.info) (dirs s) old new (Err (DestNotEmpty path))
+        → Looks allows (making_of_info earlier planned_as s (fresh_info s)) (dirs s) old new (Err (DestNotEmpty path))
     info_present found path present same acted is =
         info_looks (Err (DestNotEmpty path)) (looks_once allows (making_of_info earlier planned_as s (Some info)) (dirs s) old new (Err (DestNotEmpty path)) info.path acted
         (λ rest. looks_at_info (files_of new) s info.path rest true (sym present ∙ is) ∙ ap (λ p. Refused (refusal.NotEmpty p)) (sym same)))
 
     -- or the store failed
     pub info_stopped : (e : StoreError) (made : MakeError) (result : Result (Unit {0}) MakeError) → result ≡ Err made → made ≡ make_error_of e → Idled allows old new
-        → Looks allows (making_of_info earlier planned_as s s.info) (dirs s) old new result
+        → Looks allows (making_of_info earlier planned_as s (fresh_info s)) (dirs s) old new result
     info_stopped e made result is same idled =
         info_looks result (looks_stopped allows (making_of_info earlier planned_as s (Some info)) (dirs s) old new e made result is same refl idled)
 
-  -- a stage without an info
-  pub no_info : (log : Log) (s : Stage) → s.info ≡ None → Looks allows (making_of_info earlier planned_as s s.info) (dirs s) log log done
-  no_info log s none = looks_nowhere allows (making_of_info earlier planned_as s s.info) (dirs s) log done (λ rest. ap (λ i. making_of_info earlier planned_as s i rest) none)
+  -- a stage without an info that has to be new
+  pub no_info : (log : Log) (s : Stage) → fresh_info s ≡ None → Looks allows (making_of_info earlier planned_as s (fresh_info s)) (dirs s) log log done
+  no_info log s none = looks_nowhere allows (making_of_info earlier planned_as s (fresh_info s)) (dirs s) log done (λ rest. ap (λ i. making_of_info earlier planned_as s i rest) none)
 
   -- ---- a directory
-  module _ (old new : Log) (s : Stage) (dest : Place) (rest : List Place) where
-    pub dir_empty : (given : List (List ℕ)) → given ≡ [] → Listed allows old new dest.dir given → (OthersLook (steps_since old new) → AreNames (files_of new) dest.dir given)
-        → Looks allows (making_of_dirs earlier planned_as s (dest ∷ rest)) (dirs_left s rest) old new done
+  module _ (old new : Log) (s : Stage) (dir : List ℕ) (rest : List (List ℕ)) where
+    pub dir_empty : (given : List (List ℕ)) → given ≡ [] → Listed allows old new dir given → (OthersLook (steps_since old new) → AreNames (files_of new) dir given)
+        → Looks allows (making_of_dirs earlier planned_as s (dir ∷ rest)) (dirs_left s rest) old new done
     dir_empty given empty listed shows =
-        looks_listed allows (making_of_dirs earlier planned_as s (dest ∷ rest)) (dirs_left s rest) old new done dest.dir given listed shows
-        (λ ms. ap (λ b. where_it_looks b (making_of_names dest.dir given (making_of_dirs earlier planned_as s rest ms))) (lists_it dest.dir dest.dir given refl)
-        ∙ ap (λ names. making_of_names dest.dir names (making_of_dirs earlier planned_as s rest ms)) empty)
+        looks_listed allows (making_of_dirs earlier planned_as s (dir ∷ rest)) (dirs_left s rest) old new done dir given listed shows
+        (λ ms. ap (λ b. where_it_looks b (making_of_names dir given (making_of_dirs earlier planned_as s rest ms))) (lists_it dir dir given refl)
+        ∙ ap (λ names. making_of_names dir names (making_of_dirs earlier planned_as s rest ms)) empty)
 
-    pub dir_listed : (given : List (List ℕ)) (name path : List ℕ) → slice_get given 0 ≡ Some name → path ≡ joined dest.dir name → Listed allows old new dest.dir given
-        → (OthersLook (steps_since old new) → AreNames (files_of new) dest.dir given)
-        → Looks allows (making_of_dirs earlier planned_as s (dest ∷ rest)) (dirs_left s rest) old new (Err (DestNotEmpty path))
+    pub dir_listed : (given : List (List ℕ)) (name path : List ℕ) → slice_get given 0 ≡ Some name → path ≡ joined dir name → Listed allows old new dir given
+        → (OthersLook (steps_since old new) → AreNames (files_of new) dir given)
+        → Looks allows (making_of_dirs earlier planned_as s (dir ∷ rest)) (dirs_left s rest) old new (Err (DestNotEmpty path))
     dir_listed [] name path first is listed shows = let no_name : ⊥ = cc in absurd no_name
     dir_listed (n ∷ names) name path first is listed shows =
         let same : n ≡ name = cc in
-        looks_listed allows (making_of_dirs earlier planned_as s (dest ∷ rest)) (dirs_left s rest) old new (Err (DestNotEmpty path)) dest.dir (n ∷ names) listed shows
-        (λ ms. ap (λ b. where_it_looks b (making_of_names dest.dir (n ∷ names) (making_of_dirs earlier planned_as s rest ms))) (lists_it dest.dir dest.dir (n ∷ names) refl)
-        ∙ ap (λ p. Refused (refusal.NotEmpty p)) (ap (joined dest.dir) same ∙ sym is))
+        looks_listed allows (making_of_dirs earlier planned_as s (dir ∷ rest)) (dirs_left s rest) old new (Err (DestNotEmpty path)) dir (n ∷ names) listed shows
+        (λ ms. ap (λ b. where_it_looks b (making_of_names dir (n ∷ names) (making_of_dirs earlier planned_as s rest ms))) (lists_it dir dir (n ∷ names) refl)
+        ∙ ap (λ p. Refused (refusal.NotEmpty p)) (ap (joined dir) same ∙ sym is))
 
   -- ---- the directories, one after the other
   -- the first so many were looked at
-  abbrev pub LooksSoFar : Stage → ℕ → Log → Log → Type 0
-  LooksSoFar s n old now = Looks allows (making_of_dirs earlier planned_as s s.dests) (dirs_left s (drop n s.dests)) old now done
+  abbrev pub LooksSoFar : Stage → List (List ℕ) → ℕ → Log → Log → Type 0
+  LooksSoFar s dirs n old now = Looks allows (making_of_dirs earlier planned_as s dirs) (dirs_left s (drop n dirs)) old now done
 
-  pub no_dir_yet : (log : Log) (s : Stage) → LooksSoFar s 0 log log
-  no_dir_yet log s = looks_nowhere allows (making_of_dirs earlier planned_as s s.dests) (dirs s) log done (λ rest. refl)
+  pub no_dir_yet : (log : Log) (s : Stage) (dirs : List (List ℕ)) → LooksSoFar s dirs 0 log log
+  no_dir_yet log s dirs = looks_nowhere allows (making_of_dirs earlier planned_as s dirs) (dirs_left s dirs) log done (λ rest. refl)
 
-  module _ (old mid new : Log) (s : Stage) (n : ℕ) (so : LooksSoFar s n old mid) (dest : Place) (below : n < length s.dests) (is : dest ≡ get_or s.dests n dest) where
-    next_dirs : (result : Result (Unit {0}) MakeError) → Looks allows (making_of_dirs earlier planned_as s (dest ∷ drop (n + 1) s.dests)) (dirs_left s (drop (n + 1) s.dests)) mid new result
-        → Looks allows (making_of_dirs earlier planned_as s s.dests) (dirs_left s (drop (n + 1) s.dests)) old new result
+  module _ (old mid new : Log) (s : Stage) (dirs : List (List ℕ)) (n : ℕ) (so : LooksSoFar s dirs n old mid) (dir : List ℕ) (below : n < length dirs) (is : dir ≡ get_or dirs n dir) where
+    next_dirs : (result : Result (Unit {0}) MakeError) → Looks allows (making_of_dirs earlier planned_as s (dir ∷ drop (n + 1) dirs)) (dirs_left s (drop (n + 1) dirs)) mid new result
+        → Looks allows (making_of_dirs earlier planned_as s dirs) (dirs_left s (drop (n + 1) dirs)) old new result
     next_dirs result next =
-        looks_then allows (making_of_dirs earlier planned_as s s.dests) (dirs_left s (drop n s.dests)) (dirs_left s (drop (n + 1) s.dests)) old mid new tt result so
-        (subst (λ (dests : List Place). Looks allows (making_of_dirs earlier planned_as s dests) (dirs_left s (drop (n + 1) s.dests)) mid new result) (sym (drop_one s.dests n dest below is)) next)
+        looks_then allows (making_of_dirs earlier planned_as s dirs) (dirs_left s (drop n dirs)) (dirs_left s (drop (n + 1) dirs)) old mid new tt result so
+        (subst (λ (left : List (List ℕ)). Looks allows (making_of_dirs earlier planned_as s left) (dirs_left s (drop (n + 1) dirs)) mid new result) (sym (drop_one dirs n dir below is)) next)
 
     -- one more is empty
-    pub dirs_next : (x : Unit {0}) → Looks allows (making_of_dirs earlier planned_as s (dest ∷ drop (n + 1) s.dests)) (dirs_left s (drop (n + 1) s.dests)) mid new (Ok x) → LooksSoFar s (n + 1) old new
+    pub dirs_next : (x : Unit {0}) → Looks allows (making_of_dirs earlier planned_as s (dir ∷ drop (n + 1) dirs)) (dirs_left s (drop (n + 1) dirs)) mid new (Ok x) → LooksSoFar s dirs (n + 1) old new
     dirs_next x next = next_dirs done next
 
     -- or not
     pub dirs_stop : (e : MakeError) (result : Result (Unit {0}) MakeError) → result ≡ Err e
-        → Looks allows (making_of_dirs earlier planned_as s (dest ∷ drop (n + 1) s.dests)) (dirs_left s (drop (n + 1) s.dests)) mid new (Err e)
-        → Looks allows (making_of_dirs earlier planned_as s s.dests) (fit s) old new result
+        → Looks allows (making_of_dirs earlier planned_as s (dir ∷ drop (n + 1) dirs)) (dirs_left s (drop (n + 1) dirs)) mid new (Err e)
+        → Looks allows (making_of_dirs earlier planned_as s dirs) (fit s) old new result
     dirs_stop e result same next =
-        looks_error allows (making_of_dirs earlier planned_as s s.dests) (dirs_left s (drop (n + 1) s.dests)) (fit s) old new e result same (next_dirs (Err e) next)
+        looks_error allows (making_of_dirs earlier planned_as s dirs) (dirs_left s (drop (n + 1) dirs)) (fit s) old new e result same (next_dirs (Err e) next)
 
   -- all are empty
-  pub dirs_empty : (old new : Log) (s : Stage) (n : ℕ) → LooksSoFar s n old new → length s.dests ≤ n → Looks allows (making_of_dirs earlier planned_as s s.dests) (fit s) old new done
-  dirs_empty old new s n so over =
-      looks_as allows (making_of_dirs earlier planned_as s s.dests) (dirs_left s (drop n s.dests)) (fit s) old new tt tt
-      (λ ms. ap (λ dests. making_of_dirs earlier planned_as s dests ms) (drop_whole s.dests n over)) so
+  pub dirs_empty : (old new : Log) (s : Stage) (dirs : List (List ℕ)) (n : ℕ) → LooksSoFar s dirs n old new → length dirs ≤ n → Looks allows (making_of_dirs earlier planned_as s dirs) (fit s) old new done
+  dirs_empty old new s dirs n so over =
+      looks_as allows (making_of_dirs earlier planned_as s dirs) (dirs_left s (drop n dirs)) (fit s) old new tt tt
+      (λ ms. ap (λ left. making_of_dirs earlier planned_as s left ms) (drop_whole dirs n over)) so
 
   -- ---- whether it fits takes no step
   fit_refused : (s : Stage) (ending : Ending) → IsJudged ending (unfit_after earlier s) → IsErrorOf (making_of_fit planned_as s (unfit_after earlier s)) [] ending

@@ -3,20 +3,20 @@ use Rattle.std.proofs.Common.{◌≡◌, ℕ, zero, Bool, true, false, List, [],
 use Rattle.std.specs.Result.{result_ok}
 use Rattle.std.specs.Str.{bytes_eq}
 use Rattle.std.proofs.lemmas.Slice.Eq.{bytes_eq-Decides}
-use Rattle.ig_space.specs.declared.place.Place.{Place}
 use Rattle.ig_defs.specs.declared.step.Act.{Act}
 use Rattle.ig_defs.specs.declared.step.Act.TheVariants as act
 use Rattle.ig_defs.specs.Files.{Files, file_at}
 use Rattle.ig_defs.specs.Names.{Stands}
 use Rattle.ig_defs.specs.Own.{Moment}
 use Rattle.ig_meaning.specs.Call.{AllEmpty}
-use Rattle.ig_meaning.specs.Making.{Making, Refused, Unfinished, Planned, New, Continues, given_by, lists, making_of_copy, making_of_dirs, making_of_fit, making_of_found, making_of_info, making_of_names, making_of_plan, making_of_source, reads, where_it_looks}
+use Rattle.ig_meaning.specs.Making.{Making, Refused, Unfinished, Planned, New, Continues, fresh_info, given_by, lists, making_of_request, making_of_dirs, making_of_fit, making_of_found, making_of_info, making_of_names, making_of_plan, making_of_source, reads, where_it_looks}
 use Rattle.ig_meaning.specs.Plan.{info_path, planned, stage_of_found}
 use Rattle.ig_meaning.specs.Refusal.{Refusal}
 use Rattle.ig_meaning.specs.Taken.{unfit_after}
 use Rattle.ig_meaning.specs.Words.{Request}
 use Rattle.ig_record.specs.declared.stage.InfoFile.{InfoFile}
 use Rattle.ig_record.specs.declared.stage.Stage.{Stage}
+use Rattle.ig_record.specs.Columns.{output_dirs}
 use Rattle.ig_rule.specs.WentOn.{EachMoment}
 use Rattle.ig_stage.specs.Free.{HasNoInfo}
 use Rattle.ig_stage.specs.Looking.{AllListTruly, ListsTruly}
@@ -68,39 +68,39 @@ module _ (earlier : List Stage) (planned_as : Stage → List Moment → Making) 
   free_fit s None ms fits = free_as s ms
   free_fit s (Some r) ms fits = let no_way : ⊥ = cc in absurd no_way
 
-  free_dirs : (s : Stage) (dests : List Place) (ms : List Moment) → unfit_after earlier s ≡ None → AllEmpty files dests → Finds files ms → IsFree (making_of_dirs earlier planned_as s dests ms)
+  free_dirs : (s : Stage) (dirs : List (List ℕ)) (ms : List Moment) → unfit_after earlier s ≡ None → AllEmpty files dirs → Finds files ms → IsFree (making_of_dirs earlier planned_as s dirs ms)
   free_dirs s [] ms fits empty finds = free_fit s (unfit_after earlier s) ms fits
-  free_dirs s (dest ∷ dests) [] fits empty finds = tt
-  free_dirs s (dest ∷ dests) (m ∷ ms) fits empty finds =
-      free_listing files m.files dest.dir m.act (making_of_dirs earlier planned_as s dests ms) empty.0 finds.0 finds.1 (free_dirs s dests ms fits empty.1 finds.2)
+  free_dirs s (dir ∷ dirs) [] fits empty finds = tt
+  free_dirs s (dir ∷ dirs) (m ∷ ms) fits empty finds =
+      free_listing files m.files dir m.act (making_of_dirs earlier planned_as s dirs ms) empty.0 finds.0 finds.1 (free_dirs s dirs ms fits empty.1 finds.2)
 
-  free_found : (s : Stage) (path : List ℕ) (found : Option (List ℕ)) (ms : List Moment) → found ≡ None → IsFree (making_of_dirs earlier planned_as s s.dests ms)
+  free_found : (s : Stage) (path : List ℕ) (found : Option (List ℕ)) (ms : List Moment) → found ≡ None → IsFree (making_of_dirs earlier planned_as s (output_dirs s) ms)
       → IsFree (making_of_found earlier planned_as s path (is_some found) ms)
   free_found s path None ms none free = free
   free_found s path (Some bytes) ms none free = let no_way : ⊥ = cc in absurd no_way
 
   free_info : (s : Stage) (info : Option InfoFile) (ms : List Moment) → ((file : InfoFile) → info ≡ Some file → file_at files file.path ≡ None)
-      → unfit_after earlier s ≡ None → AllEmpty files s.dests → Finds files ms → IsFree (making_of_info earlier planned_as s info ms)
-  free_info s None ms absent fits empty finds = free_dirs s s.dests ms fits empty finds
+      → unfit_after earlier s ≡ None → AllEmpty files (output_dirs s) → Finds files ms → IsFree (making_of_info earlier planned_as s info ms)
+  free_info s None ms absent fits empty finds = free_dirs s (output_dirs s) ms fits empty finds
   free_info s (Some file) [] absent fits empty finds = tt
   free_info s (Some file) (m ∷ ms) absent fits empty finds =
       free_where (reads file.path m.act) (making_of_found earlier planned_as s file.path (is_some (file_at m.files file.path)) ms)
-      (λ looks. free_found s file.path (file_at m.files file.path) ms (ap (λ now. file_at now file.path) finds.0 ∙ absent file refl) (free_dirs s s.dests ms fits empty finds.2))
+      (λ looks. free_found s file.path (file_at m.files file.path) ms (ap (λ now. file_at now file.path) finds.0 ∙ absent file refl) (free_dirs s (output_dirs s) ms fits empty finds.2))
 
-  module _ (request : Request) (s : Stage) (absent : HasNoInfo s files) (fits : unfit_after earlier s ≡ None) (empty : AllEmpty files s.dests) where
+  module _ (request : Request) (s : Stage) (absent : HasNoInfo s files) (fits : unfit_after earlier s ≡ None) (empty : AllEmpty files (output_dirs s)) where
     free_plan : (plan : Result Stage Refusal) (ms : List Moment) → result_ok plan ≡ Some s → Finds files ms → IsFree (making_of_plan earlier planned_as plan ms)
     free_plan (Ok other) ms is finds =
         let same : s ≡ other = cc in
-        subst (λ stage. IsFree (making_of_plan earlier planned_as (Ok stage) ms)) same (free_info s s.info ms absent fits empty finds)
+        subst (λ stage. IsFree (making_of_plan earlier planned_as (Ok stage) ms)) same (free_info s (fresh_info s) ms absent fits empty finds)
     free_plan (Err r) ms is finds = let no_way : ⊥ = cc in absurd no_way
 
-    free_source : (found : Option (List ℕ)) (ms : List Moment) → stage_of_found request found ≡ Some s → Finds files ms → IsFree (making_of_source earlier planned_as request found ms)
+    free_source : (found : Option (List ℕ)) (ms : List Moment) → stage_of_found earlier request found ≡ Some s → Finds files ms → IsFree (making_of_source earlier planned_as request found ms)
     free_source None ms is finds = let no_way : ⊥ = cc in absurd no_way
-    free_source (Some bytes) ms is finds = free_plan (planned request bytes) ms is finds
+    free_source (Some bytes) ms is finds = free_plan (planned earlier request bytes) ms is finds
 
-    pub free_copy : (ms : List Moment) → stage_of_found request (file_at files (info_path request.source)) ≡ Some s → Finds files ms → IsFree (making_of_copy earlier planned_as request ms)
-    free_copy [] is finds = tt
-    free_copy (m ∷ ms) is finds =
+    pub free_request : (ms : List Moment) → stage_of_found earlier request (file_at files (info_path request.source)) ≡ Some s → Finds files ms → IsFree (making_of_request earlier planned_as request ms)
+    free_request [] is finds = tt
+    free_request (m ∷ ms) is finds =
         let path = info_path request.source in
         free_where (reads path m.act) (making_of_source earlier planned_as request (file_at m.files path) ms)
-        (λ looks. free_source (file_at m.files path) ms (ap (λ now. stage_of_found request (file_at now path)) finds.0 ∙ is) finds.2)
+        (λ looks. free_source (file_at m.files path) ms (ap (λ now. stage_of_found earlier request (file_at now path)) finds.0 ∙ is) finds.2)

@@ -1,5 +1,5 @@
 -- Each end of a run of a stage that makes files.
-use Rattle.std.proofs.Common.{arith, ◌≡◌, ◌<◌, ◌≤◌, ◌+◌, ◌-◌, ℕ, zero, suc, List, [], ◌∷◌, ◌++◌, length, take, drop, map, None, Some, Result, Err, refl, sym, ap, subst, ◌∙◌}
+use Rattle.std.proofs.Common.{arith, ◌≡◌, ◌<◌, ◌≤◌, ◌+◌, ◌-◌, ℕ, zero, suc, List, [], ◌∷◌, ◌++◌, length, take, drop, map, Option, None, Some, Result, Err, refl, sym, ap, subst, ◌∙◌}
 use Rattle.std.proofs.lemmas.List.{append-nil, append_assoc, take-append-drop, length-take}
 use Rattle.ig_defs.specs.declared.step.Act.{Act}
 use Rattle.ig_defs.specs.declared.step.Act.TheVariants as act
@@ -23,8 +23,9 @@ use Rattle.ig_task.specs.OwnInputs.{inputs-some}
 use Rattle.ig_task.specs.Runs.{sequential-is_wanted}
 use Rattle.ig_stage.specs.Did.{Did, not_made, was_made, after_all, moments_from}
 use Rattle.ig_stage.specs.Drafts.{CanRun}
-use Rattle.ig_stage.specs.Running.{FailsTask, FailsToPut, PutsOfTask, Runs, RunsSome, in_reading, in_putting, while_reading, while_putting, ending_of, ending_of_local, puts_all, reads_all}
+use Rattle.ig_stage.specs.Running.{FailsTask, FailsToPut, PutsInfo, PutsOfTask, Runs, RunsSome, in_reading, in_putting, while_reading, while_putting, ending_of, ending_of_local, puts_all, reads_all}
 use Rattle.ig_stage.specs.declared.error.LocalError.{LocalError}
+use Rattle.ig_stage.proofs.Dids.{did_nothing}
 use Rattle.ig_stage.proofs.InputReads.{after-reads}
 use Rattle.ig_stage.proofs.RunMoments.{finds_of-reads, puts_of-reads}
 use Rattle.ig_stage.proofs.RunSteps.{after-task, all_did, all_files, all_finds, all_puts, finds_of-task, puts_of-task}
@@ -82,17 +83,29 @@ module _ (s : Stage) (can : CanRun s) where
     idle : fault_of_tasks s (task_count s) 0 [] ≡ None
     idle = no_more (task_count s) 0 (omega arith)
 
-    one_info : planned_puts s (files_of old) ≡ file_of can.info ∷ first_puts (task_count s)
-    one_info = plan ∙ ap (λ i. info_files i ++ first_puts (task_count s)) can.has_info
+    -- memory ran out before it began
+    pub not_begun : Runs s old old NoMemory
+    not_begun = no_memory old [] (did_nothing old) refl (first_of-more [] (planned_puts s (files_of old)) (planned_puts s (files_of old)) refl)
+
+    module _ (info : InfoFile) (has : s.info ≡ Some info) where
+      one_info : planned_puts s (files_of old) ≡ file_of info ∷ first_puts (task_count s)
+      one_info = plan ∙ ap (λ i. info_files i ++ first_puts (task_count s)) has
+
+      put_failed : (new : Log) (e : Ending) → FailsToPut old new info.path info.text e → Runs s old new e
+      put_failed new StoreFailed (not_made did) = store_failed new [] did refl idle (first_of-more [] (planned_puts s (files_of old)) (planned_puts s (files_of old)) refl)
+      put_failed new StoreFailed (was_made did) =
+          store_failed new (act.Put info.path info.text ∷ []) did refl idle (first_of-more (file_of info ∷ []) (first_puts (task_count s)) (planned_puts s (files_of old)) one_info)
+      put_failed new NoMemory did = no_memory new [] did refl (first_of-more [] (planned_puts s (files_of old)) (planned_puts s (files_of old)) refl)
+      put_failed new (Refuses r) fails = absurd fails
+      put_failed new Finished fails = absurd fails
+
+    failed_by : (info : Option InfoFile) → s.info ≡ info → (new : Log) (e : LocalError) → PutsInfo info old new (Err e) → Runs s old new (ending_of_local e)
+    failed_by (Some info) has new e fails = put_failed info has new (ending_of_local e) fails
+    failed_by None none new e fails = absurd fails
 
     -- the info was not put
-    pub info_failed : (new : Log) (e : Ending) → FailsToPut old new can.info.path can.info.text e → Runs s old new e
-    info_failed new StoreFailed (not_made did) = store_failed new [] did refl idle (first_of-more [] (planned_puts s (files_of old)) (planned_puts s (files_of old)) refl)
-    info_failed new StoreFailed (was_made did) =
-        store_failed new (act.Put can.info.path can.info.text ∷ []) did refl idle (first_of-more (file_of can.info ∷ []) (first_puts (task_count s)) (planned_puts s (files_of old)) one_info)
-    info_failed new NoMemory did = no_memory new [] did refl (first_of-more [] (planned_puts s (files_of old)) (planned_puts s (files_of old)) refl)
-    info_failed new (Refuses r) fails = absurd fails
-    info_failed new Finished fails = absurd fails
+    pub info_failed : (new : Log) (e : LocalError) → PutsInfo s.info old new (Err e) → Runs s old new (ending_of_local e)
+    info_failed new e fails = failed_by s.info refl new e fails
 
     -- all tasks were run
     pub all_done : (new : Log) → RunsSome s old new (task_count s) → Runs s old new Finished
@@ -109,7 +122,7 @@ module _ (s : Stage) (can : CanRun s) where
                 ∙ ap (λ m. fault_of_tasks s m (task_count s) []) none;
             puts = so.puts ∙ sym plan;
             reads = so.reads;
-            wanted = record { outputs = w.0; wanted = w.1; put = sym left_them ∙ sym w.2 };
+            wanted = record { sound = can.sound; outputs = w.0; wanted = w.1; put = sym left_them ∙ sym w.2 };
             refused = tt;
             sequential = so.now ∙ ap Some left_them;
           };

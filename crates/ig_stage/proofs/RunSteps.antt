@@ -1,5 +1,5 @@
 -- A run of a stage that makes files, task by task.
-use Rattle.std.proofs.Common.{arith, ◌≡◌, ◌<◌, ◌+◌, ◌-◌, ℕ, suc, List, [], ◌∷◌, ◌++◌, length, take, map, Some, refl, sym, ap, subst, ◌∙◌}
+use Rattle.std.proofs.Common.{arith, ◌≡◌, ◌<◌, ◌+◌, ◌-◌, ℕ, suc, List, [], ◌∷◌, ◌++◌, length, take, map, Option, None, Some, Ok, refl, sym, ap, subst, ◌∙◌}
 use Rattle.std.proofs.Math.Seq.{take-length}
 use Rattle.std.proofs.lemmas.List.{append-nil, append_assoc}
 use Rattle.ig_space.specs.Chunks.{listed}
@@ -21,8 +21,8 @@ use Rattle.ig_meaning.specs.Jobs.{Ran, files_put, info_files, with_info}
 use Rattle.ig_meaning.specs.Sequential.{flattened-next}
 use Rattle.ig_meaning.specs.Wants.{flattened}
 use Rattle.ig_stage.specs.Did.{Did, after_all, moments_from}
-use Rattle.ig_stage.specs.Running.{RunsSome, TaskDone, puts_all, reads_all}
-use Rattle.ig_stage.proofs.Dids.{did_then, moments_from-append, after_all-append}
+use Rattle.ig_stage.specs.Running.{PutsInfo, RunsSome, TaskDone, puts_all, reads_all}
+use Rattle.ig_stage.proofs.Dids.{did_nothing, did_then, moments_from-append, after_all-append}
 use Rattle.ig_stage.proofs.InputReads.{after-reads}
 use Rattle.ig_stage.proofs.RunMoments.{after-puts, finds_of-more, finds_of-puts, finds_of-reads, puts_of-more, puts_of-puts, puts_of-reads, reads_of-more, reads_of-puts, reads_of-reads}
 
@@ -58,8 +58,8 @@ module _ (s : Stage) (k : ℕ) (files : Files) (outputs : List File) where
       after_all-append files (reads_all (inputs_of s k)) (puts_all outputs) ∙ ap (λ now. after_all now (puts_all outputs)) (after-reads files (inputs_of s k)) ∙ after-puts files outputs
 
 -- ---- the run begins with its info
-pub run_begins : (s : Stage) (info : InfoFile) → s.info ≡ Some info → (old new : Log) → Did old new (act.Put info.path info.text ∷ []) → RunsSome s old new 0
-run_begins s info has old new did = record {
+with_info_put : (s : Stage) (info : InfoFile) → s.info ≡ Some info → (old new : Log) → Did old new (act.Put info.path info.text ∷ []) → RunsSome s old new 0
+with_info_put s info has old new did = record {
   acts = act.Put info.path info.text ∷ [];
   did = did;
   files = refl;
@@ -68,6 +68,25 @@ run_begins s info has old new did = record {
   reads = refl;
   fault = λ rest. let all : task_count s ≡ task_count s - 0 = omega arith in ap (λ m. fault_of_tasks s m 0 rest) all;
 }
+
+-- or with nothing, where it has none
+with_nothing : (s : Stage) → s.info ≡ None → (log : Log) → RunsSome s log log 0
+with_nothing s none log = record {
+  acts = [];
+  did = did_nothing log;
+  files = refl;
+  now = ap (λ i. Some (with_info i (files_of log))) none;
+  puts = ap (λ i. info_files i ++ []) (sym none);
+  reads = refl;
+  fault = λ rest. let all : task_count s ≡ task_count s - 0 = omega arith in ap (λ m. fault_of_tasks s m 0 rest) all;
+}
+
+begins_with : (s : Stage) (info : Option InfoFile) → s.info ≡ info → (old new : Log) (x : Unit {0}) → PutsInfo info old new (Ok x) → RunsSome s old new 0
+begins_with s (Some info) has old new x put = with_info_put s info has old new put
+begins_with s None none old new x same = subst (λ log. RunsSome s old log 0) (sym same) (with_nothing s none old)
+
+pub run_begins : (s : Stage) (old new : Log) (x : Unit {0}) → PutsInfo s.info old new (Ok x) → RunsSome s old new 0
+run_begins s old new x put = begins_with s s.info refl old new x put
 
 -- ---- and goes on by a task
 module _ (s : Stage) (old mid new : Log) (n : ℕ) (below : n < task_count s) (so : RunsSome s old mid n) where

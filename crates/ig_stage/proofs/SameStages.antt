@@ -1,16 +1,23 @@
--- Stages that the rule reads as the same have the same directories.
-use Rattle.std.proofs.Common.{◌≡◌, ◌||◌, ℕ, suc, Bool, true, false, if◌then◌else◌, List, [], ◌∷◌, length, Option, None, Some, is_some, codes, refl, ap, ◌∙◌, sym}
+-- Stages that the rule reads as the same have the same directories, and the same is planned after them.
+use Rattle.std.proofs.Common.{◌≡◌, ◌||◌, ℕ, suc, Bool, true, false, if◌then◌else◌, List, [], ◌∷◌, length, Option, None, Some, Result, Ok, Err, slice_get, is_some, codes, refl, ap, ◌∙◌, sym}
 use Rattle.std.specs.Prelude.{option_map}
+use Rattle.std.specs.Result.{result_ok}
 use Rattle.std.specs.Str.{bytes_eq}
 use Rattle.ig_space.specs.Path.{joined}
 use Rattle.ig_layer.specs.Faults.{or_else}
 use Rattle.ig_meaning.specs.Refusal.{Taken}
 use Rattle.ig_meaning.specs.Jobs.{file_of}
+use Rattle.ig_info.specs.declared.error.InfoError.{InfoError}
+use Rattle.ig_info.specs.declared.scale.Scale.{Scale}
+use Rattle.ig_info.specs.Info.{InfoData}
+use Rattle.ig_info.specs.Reading.{info_in}
+use Rattle.ig_meaning.specs.Plan.{planned, planned_by, stage_of_found, with_info, with_scale}
 use Rattle.ig_meaning.specs.Stage.{unfit}
 use Rattle.ig_meaning.specs.Taken.{has_info_among, removes_one, share_one, taker_from, takes, unfit_after}
+use Rattle.ig_meaning.specs.Words.{Request}
 use Rattle.ig_record.specs.declared.stage.InfoFile.{InfoFile}
 use Rattle.ig_record.specs.declared.stage.Kind.{Kind}
-use Rattle.ig_record.specs.declared.stage.Kind.TheVariants.{Remove}
+use Rattle.ig_record.specs.declared.stage.Kind.TheVariants.{Xfer, Count, Remove}
 use Rattle.ig_record.specs.declared.stage.Stage.{Stage}
 use Rattle.ig_record.specs.Columns.{output_dirs, removed_by, removed_dir}
 use Rattle.ig_rule.specs.Facts.{Facts}
@@ -78,3 +85,24 @@ taker_same n (e ∷ ss) (t ∷ ts) s read =
 
 pub unfit_same : (ss ts : List Stage) (s : Stage) → AreRead 0 ss ts → unfit_after ss s ≡ unfit_after ts s
 unfit_same ss ts s read = ap (λ taker. or_else (option_map Taken taker) (unfit s)) (taker_same 0 ss ts s read)
+
+-- ---- what is planned after them
+
+module _ (ss ts : List Stage) (read : AreRead 0 ss ts) (request : Request) where
+  by_kind : (kind : Kind) (scale : Scale) → planned_by kind ss request scale ≡ planned_by kind ts request scale
+  by_kind Xfer scale = refl
+  by_kind Count scale = refl
+  by_kind kind scale = refl
+
+  by_scale : (info : InfoData) (found : Option Scale) → with_scale ss request info found ≡ with_scale ts request info found
+  by_scale info (Some scale) = by_kind request.kind scale
+  by_scale info None = refl
+
+  by_info : (info : Result InfoData InfoError) → with_info ss request info ≡ with_info ts request info
+  by_info (Ok info) = by_scale info (slice_get info.scales request.mip)
+  by_info (Err cause) = refl
+
+  pub planned_same : (found : Option (List ℕ)) → stage_of_found ss request found ≡ stage_of_found ts request found
+  unfolding planned
+  planned_same None = refl
+  planned_same (Some bytes) = ap result_ok (by_info (info_in bytes))

@@ -8,6 +8,7 @@ use Rattle.ig_meaning.specs.Plan.{info_path, stage_of_found}
 use Rattle.ig_meaning.specs.Taken.{unfit_after}
 use Rattle.ig_meaning.specs.Words.{Request}
 use Rattle.ig_record.specs.declared.stage.Stage.{Stage}
+use Rattle.ig_record.specs.Columns.{output_dirs}
 use Rattle.ig_rule.specs.QueueFiles.{queue_of}
 use Rattle.ig_rule.specs.Stages.{Sealed}
 use Rattle.ig_stage.specs.Free.{HasNoInfo}
@@ -19,15 +20,15 @@ abbrev pub AllOwn : List Step → Type 0
 AllOwn [] = Unit {0}
 AllOwn (step ∷ steps) = (step.mine ≡ true) × AllOwn steps
 
--- All these stages are sealed, there is room for one more, it is planned from the source's info, its info and its output directories
--- are free, none of these has one of its directories, and it fits.
+-- All these stages are sealed, there is room for one more, it is planned from the source's info, no file stands at the path of its
+-- info, where that has to be new, or lies in its output directories, none of these has one of its directories, and it fits.
 pub record CanMakeNew (q : List ℕ) (request : Request) (stages : List Stage) (files : Files) : Type 0 where
   pub sealed : (n : ℕ) → n < length stages → Sealed (queue_of q files) n
   pub few : length stages < 10 ^ 4
   pub stage : Stage
-  pub planned : stage_of_found request (file_at files (info_path request.source)) ≡ Some stage
+  pub planned : stage_of_found stages request (file_at files (info_path request.source)) ≡ Some stage
   pub no_info : HasNoInfo stage files
-  pub no_names : AllEmpty files stage.dests
+  pub no_names : AllEmpty files (output_dirs stage)
   pub fits : unfit_after stages stage ≡ None
 
 -- These stages are recorded, and either the last of them lacks its seal, or a new one can be made after them.

@@ -6,7 +6,7 @@ use Rattle.ig_defs.specs.declared.error.StoreError.TheVariants as store
 use Rattle.ig_meaning.specs.Ending.{Ending, Finished, Refuses, StoreFailed, NoMemory}
 use Rattle.ig_meaning.specs.Refusal as refusal
 use Rattle.ig_stage.specs.declared.error.MakeError.{MakeError}
-use Rattle.ig_stage.specs.declared.error.MakeError.TheVariants.{Absent, BadRecord, TooManyStages, Missing, BadInfo, NoScale, DestNotEmpty, Taken, ShapeUnfit, TooManyTasks, TaskTooLarge, Failed, Memory}
+use Rattle.ig_stage.specs.declared.error.MakeError.TheVariants.{Absent, BadRecord, TooManyStages, Missing, BadInfo, NoScale, NoStage, DestNotEmpty, Taken, ShapeUnfit, TooManyTasks, TaskTooLarge, Failed, Memory}
 
 -- how a call ends with this error
 abbrev pub ending_of_make : MakeError → Ending
@@ -16,6 +16,7 @@ ending_of_make (TooManyStages count) = Refuses (refusal.TooManyStages count)
 ending_of_make (Missing path) = Refuses (refusal.Missing path)
 ending_of_make (BadInfo path cause) = Refuses (refusal.BadInfo path cause)
 ending_of_make (NoScale mip count) = Refuses (refusal.NoScale mip count)
+ending_of_make (NoStage kind) = Refuses (refusal.NoStage kind)
 ending_of_make (DestNotEmpty path) = Refuses (refusal.NotEmpty path)
 ending_of_make (Taken stage) = Refuses (refusal.Taken stage)
 ending_of_make (ShapeUnfit axis) = Refuses (refusal.ShapeUnfit axis)

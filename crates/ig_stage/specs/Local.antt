@@ -6,7 +6,7 @@ use Rattle.ig_defs.specs.Log.{Log, files_of}
 use Rattle.ig_defs.specs.Own.{Moment, moments_since, put_all, puts_of}
 use Rattle.ig_defs.specs.Replay.{AreQuiet}
 use Rattle.ig_meaning.specs.Ending.{Ending, HasRun}
-use Rattle.ig_meaning.specs.Making.{Planned, making_of_copy}
+use Rattle.ig_meaning.specs.Making.{Planned, making_of_request}
 use Rattle.ig_meaning.specs.Plan.{info_path, stage_of_found}
 use Rattle.ig_meaning.specs.Words as meaning
 use Rattle.ig_record.specs.declared.stage.Stage.{Stage}
@@ -37,9 +37,9 @@ pub record OnlyLooked (old new : Log) : Type 0 where
 
 -- The own steps planned the stage, and those after that are a run of it, which ended so. Only own puts changed the files.
 pub record WasRun (request : meaning.Request) (old new : Log) (s : Stage) (ending : Ending) : Type 0 where
-  pub planned : stage_of_found request (file_at (files_of old) (info_path request.source)) ≡ Some s
+  pub planned : stage_of_found [] request (file_at (files_of old) (info_path request.source)) ≡ Some s
   pub after : List Moment
-  pub made : making_of_copy [] Planned request (moments_since old new) ≡ Planned s after
+  pub made : making_of_request [] Planned request (moments_since old new) ≡ Planned s after
   pub run : HasRun s (files_of old) after ending
   pub puts : puts_of (moments_since old new) ≡ puts_of after
   pub files : files_of new ≡ put_all (files_of old) (puts_of after)
@@ -47,6 +47,6 @@ pub record WasRun (request : meaning.Request) (old new : Log) (s : Stage) (endin
 -- The copy was not made; or it was made and run.
 pub data RanLocal (want : List Request) (old new : Log) (result : Result (List RanStage) LocalError) : Type 0 where
   not_made : (request : Request) (e : MakeError) → want ≡ request ∷ [] → result ≡ Err (Make e) → OnlyLooked old new
-      → IsErrorOf (making_of_copy [] Planned (shown_request request)) (moments_since old new) (ending_of_make e) → RanLocal want old new result
+      → IsErrorOf (making_of_request [] Planned (shown_request request)) (moments_since old new) (ending_of_make e) → RanLocal want old new result
   was_run : (request : Request) (s : Stage) → want ≡ request ∷ [] → WasRun (shown_request request) old new s (ending_of result)
       → IfOk result (λ ran. ran ≡ ran_of s ∷ []) → RanLocal want old new result

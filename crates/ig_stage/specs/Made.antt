@@ -11,7 +11,6 @@ use Rattle.ig_meaning.specs.Fault.{fault_of_making}
 use Rattle.ig_meaning.specs.Making.{Making, Refused, Unfinished, Planned, New, Continues}
 use Rattle.ig_meaning.specs.QueueActs.{HasMade}
 use Rattle.ig_meaning.specs.QueueMaking.{making_of_enqueue}
-use Rattle.ig_meaning.specs.QueueWords.{is_apart}
 use Rattle.ig_meaning.specs.Taken.{taken_by}
 use Rattle.ig_meaning.specs.Words as meaning
 use Rattle.ig_record.specs.Columns.{removed_dir}
@@ -92,16 +91,11 @@ pub record MakesBy (allows : Bool → Files → Act → Type 0) (q : List ℕ) (
   pub looks : LooksFirst (making ms) ms
   pub truly : OthersLook (steps_since old new) → MakesTruly result ms
 
--- The making of a copy in a queue.
+-- The making of a stage in a queue.
 abbrev pub MakesIn : List ℕ → meaning.Request → Log → Log → Result Made MakeError → Type 0
 MakesIn q request old new result = MakesBy (is_allowed (maker_rule q)) q (making_of_enqueue q request) old new result
 
 -- ---- where a record may be put
-
--- the layers of a request are apart from the queue's directory
-pub record AreLayersApart (q : List ℕ) (request : meaning.Request) : Type 0 where
-  pub source : is_apart q request.source ≡ true
-  pub dest : is_apart q request.dest ≡ true
 
 -- The record of a stage that makes files may be put after those of these stages.
 pub record CanRecord (q : List ℕ) (stages : List Stage) (s : Stage) (files : Files) : Type 0 where

@@ -1,10 +1,11 @@
 -- What a command asks for.
-use Rattle.std.specs.Prelude.{◌≡◌, ◌≢◌, ◌≤◌, ℕ, true, List, [], ◌∷◌, Some, IfSome, length, option_map, unwrap_or}
+use Rattle.std.specs.Prelude.{◌≡◌, ◌≢◌, ◌≤◌, ℕ, true, List, [], ◌∷◌, Some, IfSome, length, option_map}
 use Rattle.ig_space.specs.declared.point.Point.{Point}
 use Rattle.ig_space.specs.Path.{is_path}
-use Rattle.ig_record.specs.declared.stage.Kind.TheVariants.{Xfer}
+use Rattle.ig_record.specs.declared.stage.Kind.TheVariants.{Remove}
+use Rattle.ig_record.specs.Sound.{has_come}
 use Rattle.ig_meaning.specs.Words as meaning
-use Rattle.ig_meaning.specs.Words.{Compressed, Plain}
+use Rattle.ig_meaning.specs.Words.{Compressed, Plain, writes_layer}
 use Rattle.ig_stage.specs.declared.request.Coding.{Coding}
 use Rattle.ig_stage.specs.declared.request.Coding.TheVariants.{Raw, Cseg}
 use Rattle.ig_stage.specs.declared.request.Request.{Request}
@@ -14,13 +15,19 @@ abbrev pub shown_coding : Coding → meaning.Coding
 shown_coding Raw = Plain
 shown_coding Cseg = Compressed
 
--- the new layer of a request that has one
-abbrev pub new_layer : Request → List ℕ
-new_layer request = unwrap_or request.dest []
-
--- the request of a copy that this is
+-- the request that this is
 abbrev pub shown_request : Request → meaning.Request
-shown_request request = record { source = request.source; dest = new_layer request; mip = request.mip; chunk = request.chunk; shape = request.shape; encoding = option_map shown_coding request.encoding; block = request.block }
+shown_request request = record {
+  kind = request.kind;
+  source = request.source;
+  dest = request.dest;
+  mip = request.mip;
+  levels = request.levels;
+  chunk = request.chunk;
+  shape = request.shape;
+  encoding = option_map shown_coding request.encoding;
+  block = request.block;
+}
 
 -- each side is from 1 to the largest value
 pub record HasSides (point : Point) : Type 0 where
@@ -31,23 +38,28 @@ pub record HasSides (point : Point) : Type 0 where
   pub z_some : 1 ≤ point.z
   pub z_limit : point.z ≤ 16777216
 
--- a copy of one layer into another: short paths, which are not the same, and numbers within their limits
+-- the new layer: a short path, which is not that of the source
+pub record HasDest (request : Request) : Type 0 where
+  pub layer : List ℕ
+  pub is : request.dest ≡ Some layer
+  pub path : is_path layer ≡ true
+  pub short : length layer ≤ 100
+  pub apart : request.source ≢ layer
+
+-- a stage of a kind that has come and makes files: short paths, and numbers within their limits
 pub record HasLimits (request : Request) : Type 0 where
-  pub copies : request.kind ≡ Xfer
+  pub come : has_come request.kind ≡ true
+  pub makes : request.kind ≢ Remove
   pub source_path : is_path request.source ≡ true
   pub source_short : length request.source ≤ 100
-  pub layer : List ℕ
-  pub dest_is : request.dest ≡ Some layer
-  pub dest_path : is_path layer ≡ true
-  pub dest_short : length layer ≤ 100
-  pub apart : request.source ≢ layer
+  pub dest : writes_layer request.kind ≡ true → HasDest request
   pub mip_limit : request.mip ≤ 99
   pub no_levels : request.levels ≡ 0
   pub chunk_sides : IfSome request.chunk HasSides
   pub shape_sides : IfSome request.shape HasSides
 
--- what a command asks for: one copy
-pub record IsOneCopy (want : List Request) : Type 0 where
+-- what a command asks for: one stage
+pub record IsOneStage (want : List Request) : Type 0 where
   pub request : Request
   pub one : want ≡ request ∷ []
   pub limits : HasLimits request

@@ -7,6 +7,7 @@ use Rattle.ig_defs.specs.Log.{Log, files_of}
 use Rattle.ig_defs.specs.Own.{File, put_all, puts_of, reads_of}
 use Rattle.ig_space.specs.Chunks.{listed}
 use Rattle.ig_meaning.specs.Refusal as refusal
+use Rattle.ig_record.specs.declared.stage.InfoFile.{InfoFile}
 use Rattle.ig_record.specs.declared.stage.Stage.{Stage}
 use Rattle.ig_record.specs.Columns.{inputs_of}
 use Rattle.ig_record.specs.Stage.{task_count}
@@ -84,6 +85,12 @@ FailsToPut old new path bytes Finished = ⊥
 abbrev pub PutsFile : Log → Log → List ℕ → List ℕ → Result (Unit {0}) LocalError → Type 0
 PutsFile old new path bytes (Ok done) = Did old new (act.Put path bytes ∷ [])
 PutsFile old new path bytes (Err e) = FailsToPut old new path bytes (ending_of_local e)
+
+-- the info was put, if there is one
+abbrev pub PutsInfo : Option InfoFile → Log → Log → Result (Unit {0}) LocalError → Type 0
+PutsInfo (Some info) old new result = PutsFile old new info.path info.text result
+PutsInfo None old new (Ok done) = new ≡ old
+PutsInfo None old new (Err e) = ⊥
 
 abbrev pub FailsToPutAll : List Output → Log → Log → Ending → Type 0
 FailsToPutAll outputs old new StoreFailed = PutsSome outputs old new

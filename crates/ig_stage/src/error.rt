@@ -5,6 +5,7 @@ ghost use Rattle.ig_stage.specs.declared.error.MakeError.TheVariants as make;
 ghost use Rattle.ig_stage.specs.Errors.{make_error_of};
 
 use ig_info::InfoError;
+use ig_record::Kind;
 use ig_space::{Path, Text};
 use ig_store::StoreError;
 use ig_task::RunError;
@@ -13,7 +14,7 @@ use thiserror::Error;
 
 /// Why a stage is not made: a record of the queue isn't there, or is none; the queue has no place for more stages; the source's
 /// info isn't there; an info is refused, the source's or the new one; the source has no
-/// scale with this number; the new layer's info, or a file in its directory, is there; an earlier stage of the queue
+/// scale with this number; the queue has no stage of the kind that the new one builds on; the new layer's info, or a file in its directory, is there; an earlier stage of the queue
 /// has one of its directories; the shape isn't a multiple of the new
 /// chunk on this axis; there are too many tasks; the chunks that one task reads have so many voxels, which are too many.
 #[derive(Debug, Drop, Error)]
@@ -30,6 +31,8 @@ pub enum MakeError {
     BadInfo { path: Path, cause: InfoError },
     #[error("no scale {mip} of {count}")]
     NoScale { mip: u32, count: u32 },
+    #[error("no stage of kind {kind:?}")]
+    NoStage { kind: Kind },
     #[error("`{}` is there", .path.as_str())]
     DestNotEmpty { path: Path },
     #[error("taken by stage {stage}")]

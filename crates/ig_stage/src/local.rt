@@ -3,7 +3,7 @@ ghost use Rattle.std.specs.Prelude.{◌≡◌, ◌∷◌, []};
 ghost use Rattle.ig_stage.specs.Local.{RanLocal};
 ghost use Rattle.ig_stage.specs.Errors.{HasCauseFor};
 ghost use Rattle.ig_stage.specs.Pipeline.{local_rule};
-ghost use Rattle.ig_stage.specs.Requests.{HasLimits, IsOneCopy};
+ghost use Rattle.ig_stage.specs.Requests.{HasLimits, IsOneStage};
 ghost use Rattle.ig_stage.specs.Running.{ending_of};
 
 use crate::making::check;
@@ -27,7 +27,7 @@ pub type Ran = List<RanStage>;
 
 /// The one request.
 fn only(want: &Requests) -> &Request
-    requires { IsOneCopy want.now }
+    requires { IsOneStage want.now }
     ensures only { want.now ≡ result.now ∷ [] }
     ensures limits { HasLimits result.now }
 {
@@ -41,7 +41,7 @@ pub fn run_local<S: Store<Pipeline>>(
     want: &Requests,
 ) -> Result<Ran, LocalError>
     requires rule { S.rule store.old ≡ local_rule }
-    requires want { IsOneCopy want.now }
+    requires want { IsOneStage want.now }
     ensures rule { S.rule store.new ≡ local_rule }
     ensures cause { HasCauseFor (S.faults store.old) (S.faults store.new) (ending_of result) }
     ensures ran { S.tells → RanLocal want.now (S.log store.old) (S.log store.new) result }

@@ -1,14 +1,14 @@
-//! Looks whether a copy can be made, and plans it. Nothing is put here.
-ghost use Rattle.std.specs.Prelude.{◌≡◌, ◌≤◌, ◌^◌, ◌∷◌, ℕ, List as list, None, Some, length, true, IfOk, OnOk};
-ghost use Rattle.ig_space.specs.declared.place.Place as place;
+//! Looks whether a stage can be made, and plans it. Nothing is put here.
+ghost use Rattle.std.specs.Prelude.{◌≡◌, ◌≤◌, ◌^◌, ◌∷◌, ℕ, List as list, None, Some, length, option_map, IfOk, OnOk};
 ghost use Rattle.ig_space.specs.Path.{joined};
 ghost use Rattle.ig_defs.specs.Files.{file_at};
 ghost use Rattle.ig_defs.specs.Log.{files_of};
 ghost use Rattle.ig_defs.specs.Names.{IsNameIn};
 ghost use Rattle.ig_defs.specs.Own.{Moment};
-ghost use Rattle.ig_meaning.specs.Making.{making_of_copy, making_of_dirs, making_of_fit, making_of_info, making_of_plan, Making};
+ghost use Rattle.ig_meaning.specs.Making.{making_of_request, making_of_dirs, making_of_fit, making_of_info, making_of_plan, fresh_info, Making};
 ghost use Rattle.ig_meaning.specs.Plan.{info_path, planned, stage_of_found};
-ghost use Rattle.ig_meaning.specs.QueueWords.{is_apart};
+ghost use Rattle.ig_meaning.specs.QueueApart.{AreLayersApart};
+ghost use Rattle.ig_record.specs.Columns.{output_dirs};
 ghost use Rattle.ig_meaning.specs.Taken.{taken_by, unfit_after};
 ghost use Rattle.ig_meaning.specs.Words.{Request as Asked};
 ghost use Rattle.ig_record.specs.declared.stage.Stage as meaning;
@@ -19,14 +19,14 @@ ghost use Rattle.ig_stage.specs.Free.{AreEmptyDirs, HasNoInfo, IsEmptyDir, IsFre
 ghost use Rattle.ig_stage.specs.Looking.{Looks};
 ghost use Rattle.ig_stage.specs.Making.{JudgesFit};
 ghost use Rattle.ig_stage.specs.Pipeline.{local_rule};
-ghost use Rattle.ig_stage.specs.Requests.{new_layer, shown_request, HasLimits};
+ghost use Rattle.ig_stage.specs.Requests.{shown_request, HasLimits};
 
 use crate::calls::{has, names, read};
 use crate::planning::{check_fit, info_file, plan};
 use crate::taking::taker;
 use crate::{MakeError, Request, Stages};
-use ig_record::Stage;
-use ig_space::{Bytes, Path, Place, Text, TryClone};
+use ig_record::{InfoFile, Kind, Stage, dirs};
+use ig_space::{Bytes, Path, Paths, Text, TryClone};
 use ig_store::Store;
 use ig_task::Pipeline;
 use std::alloc::{AllocError, Global};
@@ -41,7 +41,7 @@ fn read_source<S: Store<Pipeline>>(
     ensures rule { S.rule store.new ≡ S.rule store.old }
     ensures cause { HasCauseFor (S.faults store.old) (S.faults store.new) (ending_of result) }
     ensures found { S.tells → S.rule store.old ≡ local_rule → IfOk result (λ bytes. file_at (files_of (S.log store.old)) (info_path source.now) ≡ Some bytes) }
-    ensures looks { S.tells → (earlier : list meaning.Stage) (planned_as : meaning.Stage → list Moment → Making) (request : Asked) → request.source ≡ source.now → Looks (is_allowed (S.rule store.old)) (making_of_copy earlier planned_as request) (λ bytes. making_of_plan earlier planned_as (planned request bytes)) (S.log store.old) (S.log store.new) result }
+    ensures looks { S.tells → (earlier : list meaning.Stage) (planned_as : meaning.Stage → list Moment → Making) (request : Asked) → request.source ≡ source.now → Looks (is_allowed (S.rule store.old)) (making_of_request earlier planned_as request) (λ bytes. making_of_plan earlier planned_as (planned earlier request bytes)) (S.log store.old) (S.log store.new) result }
 {
     let path = info_file(alloc, source)?;
     match read(store, &path)? {
@@ -59,14 +59,25 @@ fn name_in(alloc: Global, dir: &Path, name: &Text) -> Result<Path, AllocError>
     Ok(Path::new(alloc, text.as_str())?.unwrap())
 }
 
-/// Looks whether the info that the stage puts is absent.
+/// The info that has to be new, if there is one.
+fn fresh_info(stage: &Stage) -> Option<&InfoFile>
+    ensures { option_map (λ info. info.now) result ≡ fresh_info stage.now }
+{
+    match stage.kind {
+        Kind::Xfer | Kind::Relabel => stage.info.as_ref(),
+        Kind::Downsample | Kind::Faces | Kind::Links | Kind::Labels => None,
+        Kind::Count | Kind::Sum | Kind::Remove => None,
+    }
+}
+
+/// Looks whether the info that the stage puts is absent, where it has to be new.
 fn check_info<S: Store<Pipeline>>(store: &mut S, stage: &Stage) -> Result<(), MakeError>
     ensures rule { S.rule store.new ≡ S.rule store.old }
     ensures cause { HasCauseFor (S.faults store.old) (S.faults store.new) (ending_of result) }
     ensures absent { S.tells → OnOk result (HasNoInfo stage.now (files_of (S.log store.new))) }
-    ensures looks { S.tells → (earlier : list meaning.Stage) (planned_as : meaning.Stage → list Moment → Making) → Looks (is_allowed (S.rule store.old)) (making_of_info earlier planned_as stage.now stage.now.info) (λ done. making_of_dirs earlier planned_as stage.now stage.now.dests) (S.log store.old) (S.log store.new) result }
+    ensures looks { S.tells → (earlier : list meaning.Stage) (planned_as : meaning.Stage → list Moment → Making) → Looks (is_allowed (S.rule store.old)) (making_of_info earlier planned_as stage.now (fresh_info stage.now)) (λ done. making_of_dirs earlier planned_as stage.now (output_dirs stage.now)) (S.log store.old) (S.log store.new) result }
 {
-    let Some(info) = &stage.info else {
+    let Some(info) = fresh_info(stage) else {
         return Ok(());
     };
     if has(store, &info.path)? {
@@ -77,58 +88,60 @@ fn check_info<S: Store<Pipeline>>(store: &mut S, stage: &Stage) -> Result<(), Ma
     Ok(())
 }
 
-/// Looks whether the directory of a new scale has no files.
+/// Looks whether an output directory has no files.
 fn check_dir<S: Store<Pipeline>>(
     alloc: Global,
     store: &mut S,
-    dest: &Place,
+    dir: &Path,
 ) -> Result<(), MakeError>
     ensures rule { S.rule store.new ≡ S.rule store.old }
     ensures cause { HasCauseFor (S.faults store.old) (S.faults store.new) (ending_of result) }
-    ensures empty { S.tells → (q : list ℕ) (stages : list meaning.Stage) → KnowsQueue (S.rule store.old) q stages (files_of (S.log store.old)) → OnOk result (IsEmptyDir q stages dest.now.dir (files_of (S.log store.new))) }
-    ensures looks { S.tells → (earlier : list meaning.Stage) (planned_as : meaning.Stage → list Moment → Making) (s : meaning.Stage) (rest : list place.Place) → Looks (is_allowed (S.rule store.old)) (making_of_dirs earlier planned_as s (dest.now ∷ rest)) (λ done. making_of_dirs earlier planned_as s rest) (S.log store.old) (S.log store.new) result }
+    ensures empty { S.tells → (q : list ℕ) (stages : list meaning.Stage) → KnowsQueue (S.rule store.old) q stages (files_of (S.log store.old)) → OnOk result (IsEmptyDir q stages dir.now (files_of (S.log store.new))) }
+    ensures looks { S.tells → (earlier : list meaning.Stage) (planned_as : meaning.Stage → list Moment → Making) (s : meaning.Stage) (rest : list (list ℕ)) → Looks (is_allowed (S.rule store.old)) (making_of_dirs earlier planned_as s (dir.now ∷ rest)) (λ done. making_of_dirs earlier planned_as s rest) (S.log store.old) (S.log store.new) result }
 {
-    let given = names(store, &dest.dir)?;
+    let given = names(store, dir)?;
     match given.get(0) {
         Some(name) => Err(MakeError::DestNotEmpty {
-            path: name_in(alloc, &dest.dir, name)?,
+            path: name_in(alloc, dir, name)?,
         }),
         None => Ok(()),
     }
 }
 
-/// Looks whether the directories of the new scales have no files.
+/// Looks whether these output directories have no files.
 fn check_dirs<S: Store<Pipeline>>(
     alloc: Global,
     store: &mut S,
-    stage: &Stage,
+    dirs: &Paths,
 ) -> Result<(), MakeError>
     ensures rule { S.rule store.new ≡ S.rule store.old }
     ensures cause { HasCauseFor (S.faults store.old) (S.faults store.new) (ending_of result) }
-    ensures empty { S.tells → (q : list ℕ) (stages : list meaning.Stage) → KnowsQueue (S.rule store.old) q stages (files_of (S.log store.old)) → OnOk result (AreEmptyDirs q stages stage.now.dests (files_of (S.log store.new))) }
-    ensures looks { S.tells → (earlier : list meaning.Stage) (planned_as : meaning.Stage → list Moment → Making) → Looks (is_allowed (S.rule store.old)) (making_of_dirs earlier planned_as stage.now stage.now.dests) (λ done. making_of_fit planned_as stage.now (unfit_after earlier stage.now)) (S.log store.old) (S.log store.new) result }
+    ensures empty { S.tells → (q : list ℕ) (stages : list meaning.Stage) → KnowsQueue (S.rule store.old) q stages (files_of (S.log store.old)) → OnOk result (AreEmptyDirs q stages dirs.now (files_of (S.log store.new))) }
+    ensures looks { S.tells → (earlier : list meaning.Stage) (planned_as : meaning.Stage → list Moment → Making) (s : meaning.Stage) → Looks (is_allowed (S.rule store.old)) (making_of_dirs earlier planned_as s dirs.now) (λ done. making_of_fit planned_as s (unfit_after earlier s)) (S.log store.old) (S.log store.new) result }
 {
-    for dest in stage.dests.as_slice() {
-        check_dir(alloc, store, dest)?;
+    for dir in dirs.as_slice() {
+        check_dir(alloc, store, dir)?;
     }
     Ok(())
 }
 
-/// Whether the copy can be made after these earlier stages: none of them has one of its directories, and it can be run.
-fn check_after(earlier: &Stages, new: &Stage) -> Result<(), MakeError>
+/// Whether the stage, which writes in these directories, can be made after these earlier ones: none of them has one of its
+/// directories, and it can be run.
+fn check_after(earlier: &Stages, new: &Stage, dirs: &Paths) -> Result<(), MakeError>
     requires few { length earlier.now ≤ 10 ^ 4 }
     requires draft { IsDraft new.now }
+    requires dirs { dirs.now ≡ output_dirs new.now }
     ensures judged { JudgesFit (unfit_after earlier.now new.now) result }
     ensures not_taken { OnOk result (taken_by earlier.now new.now ≡ None) }
     ensures can_run { OnOk result (CanRun new.now) }
 {
-    if let Some(stage) = taker(earlier, new) {
+    if let Some(stage) = taker(earlier, new, dirs) {
         return Err(MakeError::Taken { stage });
     }
     check_fit(new)
 }
 
-/// Looks whether the copy that the request asks for can be made after these earlier stages of a queue, and plans it.
+/// Looks whether the stage that the request asks for can be made after these earlier ones of a queue, and plans it.
 pub fn check<S: Store<Pipeline>>(
     alloc: Global,
     store: &mut S,
@@ -140,16 +153,17 @@ pub fn check<S: Store<Pipeline>>(
     ensures rule { S.rule store.new ≡ S.rule store.old }
     ensures cause { HasCauseFor (S.faults store.old) (S.faults store.new) (ending_of result) }
     ensures can_run { IfOk result CanRun }
-    ensures planned { IfOk result (IsPlanned (shown_request request.now)) }
+    ensures planned { IfOk result (IsPlanned earlier.now (shown_request request.now)) }
     ensures not_taken { IfOk result (λ stage. taken_by earlier.now stage ≡ None) }
-    ensures looks { S.tells → (planned_as : meaning.Stage → list Moment → Making) → Looks (is_allowed (S.rule store.old)) (making_of_copy earlier.now planned_as (shown_request request.now)) planned_as (S.log store.old) (S.log store.new) result }
-    ensures found { S.tells → S.rule store.old ≡ local_rule → IfOk result (λ stage. stage_of_found (shown_request request.now) (file_at (files_of (S.log store.old)) (info_path request.now.source)) ≡ Some stage) }
-    ensures free { S.tells → (q : list ℕ) → is_apart q request.now.source ≡ true → is_apart q (new_layer request.now) ≡ true → KnowsQueue (S.rule store.old) q earlier.now (files_of (S.log store.old)) → IfOk result (λ stage. IsFree q earlier.now stage (files_of (S.log store.new))) }
+    ensures looks { S.tells → (planned_as : meaning.Stage → list Moment → Making) → Looks (is_allowed (S.rule store.old)) (making_of_request earlier.now planned_as (shown_request request.now)) planned_as (S.log store.old) (S.log store.new) result }
+    ensures found { S.tells → S.rule store.old ≡ local_rule → IfOk result (λ stage. stage_of_found earlier.now (shown_request request.now) (file_at (files_of (S.log store.old)) (info_path request.now.source)) ≡ Some stage) }
+    ensures free { S.tells → (q : list ℕ) → AreLayersApart q (shown_request request.now) → KnowsQueue (S.rule store.old) q earlier.now (files_of (S.log store.old)) → IfOk result (λ stage. IsFree q earlier.now stage (files_of (S.log store.new))) }
 {
     let bytes = read_source(alloc, store, &request.source)?;
-    let stage = plan(alloc, request, &bytes)?;
+    let stage = plan(alloc, request, earlier, &bytes)?;
+    let dirs = dirs(alloc, &stage)?;
     check_info(store, &stage)?;
-    check_dirs(alloc, store, &stage)?;
-    check_after(earlier, &stage)?;
+    check_dirs(alloc, store, &dirs)?;
+    check_after(earlier, &stage, &dirs)?;
     Ok(stage)
 }

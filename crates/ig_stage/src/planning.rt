@@ -1,4 +1,4 @@
-//! Plans a copy from the info of its source, and judges whether it can be run. Nothing is read or put here.
+//! Plans a stage from the info of its source, and judges whether it can be run. Nothing is read or put here.
 ghost use Rattle.std.specs.Prelude.{◌≡◌, ◌^◌, ◌≤◌, ◌+◌, ◌<◌, ℕ, Ok, Some, None, length, slice_get, true, codes, option_map, unwrap_or, IfOk, IfErr, IfSome, OnOk};
 ghost use Rattle.std.specs.Str.{is_utf8};
 ghost use Rattle.ig_space.specs.Path.{is_path, joined};
@@ -8,15 +8,19 @@ ghost use Rattle.ig_info.specs.Reading.{info_in};
 ghost use Rattle.ig_info.specs.Scale.{scale_fits};
 ghost use Rattle.ig_info.specs.Info.{InfoData};
 ghost use Rattle.ig_record.specs.SoundFacts.{HasSides as HasSome, IsSmall};
-ghost use Rattle.ig_record.specs.Stage.{cells, most_tasks, most_voxels};
+ghost use Rattle.ig_record.specs.declared.stage.Kind.TheVariants.{Xfer, Count};
+ghost use Rattle.ig_record.specs.Sound.{counts_name};
+ghost use Rattle.ig_record.specs.Stage.{cells, most_tasks, most_voxels, times};
 ghost use Rattle.ig_meaning.specs.Stage.{unfit};
-ghost use Rattle.ig_meaning.specs.Plan.{info_path, new_encoding as new_encoding_of, new_scale as new_scale_of, place_in, planned, twice as twice_of, with_dest};
+ghost use Rattle.ig_meaning.specs.Plan.{info_path, new_encoding as new_encoding_of, new_scale as new_scale_of, pass_stage, place_in, planned, planned_by, with_dest};
 ghost use Rattle.ig_stage.specs.Errors.{ending_of_make};
 ghost use Rattle.ig_stage.specs.Making.{info_error_of, Explains, JudgesFit};
 ghost use Rattle.ig_stage.specs.Drafts.{CanRun, IsDraft};
-ghost use Rattle.ig_stage.specs.Requests.{new_layer as new_layer_of, shown_coding, shown_request, HasLimits, HasSides};
+ghost use Rattle.ig_meaning.specs.Words.{new_layer as new_layer_of};
+ghost use Rattle.ig_stage.specs.declared.error.MakeError.TheVariants as make;
+ghost use Rattle.ig_stage.specs.Requests.{shown_coding, shown_request, HasDest, HasLimits, HasSides};
 
-use crate::{Coding, MakeError, Request};
+use crate::{Coding, MakeError, Request, Stages};
 use ig_info::{Info, InfoError, Scale, dest_info, read_info, write_info};
 use ig_record::{InfoFile, Kind, MOST_TASKS, MOST_VOXELS, Places, Stage};
 use ig_space::{Bytes, Encoding, Geometry, Path, Place, Point, TryClone};
@@ -53,10 +57,15 @@ pub fn info_file(alloc: Global, layer: &Path) -> Result<Path, AllocError>
 
 /// Reads the info of the source.
 #[tactic(auto, unfolding(ig_meaning::specs::Plan::planned))]
-fn source_info(alloc: Global, request: &Request, bytes: &Bytes) -> Result<Info, MakeError>
+fn source_info(
+    alloc: Global,
+    request: &Request,
+    _earlier: &Stages,
+    bytes: &Bytes,
+) -> Result<Info, MakeError>
     requires { length request.now.source ≤ 100 }
     ensures info { IfOk result (λ info. info_in bytes.now ≡ Ok info) }
-    ensures refused { IfErr result (λ e. Explains (ending_of_make e) (planned (shown_request request.now) bytes.now)) }
+    ensures refused { IfErr result (λ e. Explains (ending_of_make e) (planned _earlier.now (shown_request request.now) bytes.now)) }
 {
     match read_info(alloc, bytes.as_bytes()) {
         Ok(info) => Ok(info),
@@ -99,8 +108,8 @@ fn new_scale(request: &Request, scale: &Scale) -> Result<Scale, AllocError>
 
 /// The new layer.
 fn new_layer(request: &Request) -> &Path
-    requires { HasLimits request.now }
-    ensures value { result.now ≡ new_layer_of request.now }
+    requires { HasDest request.now }
+    ensures value { result.now ≡ new_layer_of (shown_request request.now) }
     ensures short { length result.now ≤ 100 }
 {
     request.dest.as_ref().unwrap()
@@ -113,8 +122,8 @@ fn new_info(
     scale: &Scale,
     new: &Scale,
 ) -> Result<InfoFile, MakeError>
-    requires { HasLimits request.now }
-    ensures info { IfOk result (λ file. (info : InfoData) × (dest_of new.now ≡ Ok info) × (file ≡ record { path = info_path (new_layer_of request.now); text = compact_text info.members })) }
+    requires { HasDest request.now }
+    ensures info { IfOk result (λ file. (info : InfoData) × (dest_of new.now ≡ Ok info) × (file ≡ record { path = info_path (new_layer_of (shown_request request.now)); text = compact_text info.members })) }
     ensures text { IfOk result (λ file. is_utf8 file.text ≡ true) }
     ensures fits { OnOk result (scale_fits new.now ≡ true) }
     ensures refused { IfErr result (λ e. Explains (ending_of_make e) (with_dest (shown_request request.now) scale.now new.now (dest_of new.now))) }
@@ -146,7 +155,7 @@ fn twice(size: Point) -> Point
     requires x { size.x ≤ 2 ^ 40 }
     requires y { size.y ≤ 2 ^ 40 }
     requires z { size.z ≤ 2 ^ 40 }
-    ensures { result ≡ twice_of size }
+    ensures { result ≡ times 2 size }
 {
     Point {
         x: 2 * size.x,
@@ -155,11 +164,11 @@ fn twice(size: Point) -> Point
     }
 }
 
-/// The size of a task's box: what is asked for, else twice a new chunk on each axis.
+/// The size of a task's box: what is asked for, else twice a chunk on each axis.
 fn box_size(asked: Option<Point>, chunk: Point) -> Point
     requires asked { IfSome asked HasSides }
     requires chunk { HasSides chunk }
-    ensures value { result ≡ unwrap_or asked (twice_of chunk) }
+    ensures value { result ≡ unwrap_or asked (times 2 chunk) }
     ensures some { HasSome result }
     ensures small { IsSmall result }
 {
@@ -170,8 +179,10 @@ fn box_size(asked: Option<Point>, chunk: Point) -> Point
 }
 
 /// Plans the copy of this scale.
-fn plan_scale(alloc: Global, request: &Request, scale: &Scale) -> Result<Stage, MakeError>
+fn plan_copy(alloc: Global, request: &Request, scale: &Scale) -> Result<Stage, MakeError>
     requires limits { HasLimits request.now }
+    requires copies { request.now.kind ≡ Xfer }
+    requires dest { HasDest request.now }
     requires fits { scale_fits scale.now ≡ true }
     ensures planned { IfOk result (λ stage. with_dest (shown_request request.now) scale.now (new_scale_of (shown_request request.now) scale.now) (dest_of (new_scale_of (shown_request request.now) scale.now)) ≡ Ok stage) }
     ensures draft { IfOk result IsDraft }
@@ -191,17 +202,80 @@ fn plan_scale(alloc: Global, request: &Request, scale: &Scale) -> Result<Stage, 
     })
 }
 
-/// Plans the copy of a layer with this info file.
-#[tactic(auto, unfolding(ig_meaning::specs::Plan::planned))]
-pub fn plan(alloc: Global, request: &Request, bytes: &Bytes) -> Result<Stage, MakeError>
-    requires { HasLimits request.now }
-    ensures planned { IfOk result (λ stage. planned (shown_request request.now) bytes.now ≡ Ok stage) }
-    ensures draft { IfOk result IsDraft }
-    ensures refused { IfErr result (λ e. Explains (ending_of_make e) (planned (shown_request request.now) bytes.now)) }
+/// The directory of the passes of a scale, under this name in its layer.
+fn scratch_of(
+    alloc: Global,
+    layer: &Path,
+    name: &str,
+    scale: &Scale,
+) -> Result<Path, AllocError>
+    requires layer { length layer.now ≤ 100 }
+    requires name { is_path name.now ≡ true }
+    requires short { length name.now ≤ 6 }
+    requires fits { scale_fits scale.now ≡ true }
+    ensures { IfOk result (λ path. path ≡ joined (joined layer.now name.now) scale.now.key) }
 {
-    let info = source_info(alloc, request, bytes)?;
+    let dir = file_in(alloc, layer, name)?;
+    file_in(alloc, &dir, scale.key.as_str())
+}
+
+/// Plans the counts of this scale's voxels.
+fn plan_count(alloc: Global, request: &Request, scale: &Scale) -> Result<Stage, MakeError>
+    requires limits { HasLimits request.now }
+    requires counts { request.now.kind ≡ Count }
+    requires fits { scale_fits scale.now ≡ true }
+    ensures planned { IfOk result (λ stage. pass_stage Count counts_name (shown_request request.now) scale.now ≡ stage) }
+    ensures draft { IfOk result IsDraft }
+    ensures refused { IfErr result (λ e. e ≡ make.Memory) }
+{
+    Ok(Stage {
+        kind: Kind::Count,
+        source: place_of(alloc, &request.source, scale)?,
+        dests: Places::new(alloc),
+        scratch: Some(scratch_of(alloc, &request.source, "voxels", scale)?),
+        shape: box_size(request.shape, scale.geometry.chunk),
+        info: None,
+    })
+}
+
+/// By the kind: plans the stage of this scale, after these earlier ones.
+fn plan_scale(
+    alloc: Global,
+    request: &Request,
+    _earlier: &Stages,
+    scale: &Scale,
+) -> Result<Stage, MakeError>
+    requires limits { HasLimits request.now }
+    requires fits { scale_fits scale.now ≡ true }
+    ensures planned { IfOk result (λ stage. planned_by request.now.kind _earlier.now (shown_request request.now) scale.now ≡ Ok stage) }
+    ensures draft { IfOk result IsDraft }
+    ensures refused { IfErr result (λ e. Explains (ending_of_make e) (planned_by request.now.kind _earlier.now (shown_request request.now) scale.now)) }
+{
+    match request.kind {
+        Kind::Xfer => plan_copy(alloc, request, scale),
+        Kind::Count => plan_count(alloc, request, scale),
+        Kind::Remove => unreachable!(),
+        Kind::Downsample | Kind::Faces | Kind::Links | Kind::Labels => unreachable!(),
+        Kind::Relabel | Kind::Sum => unreachable!(),
+    }
+}
+
+/// Plans a stage of a layer with this info file, after these earlier ones.
+#[tactic(auto, unfolding(ig_meaning::specs::Plan::planned))]
+pub fn plan(
+    alloc: Global,
+    request: &Request,
+    earlier: &Stages,
+    bytes: &Bytes,
+) -> Result<Stage, MakeError>
+    requires { HasLimits request.now }
+    ensures planned { IfOk result (λ stage. planned earlier.now (shown_request request.now) bytes.now ≡ Ok stage) }
+    ensures draft { IfOk result IsDraft }
+    ensures refused { IfErr result (λ e. Explains (ending_of_make e) (planned earlier.now (shown_request request.now) bytes.now)) }
+{
+    let info = source_info(alloc, request, earlier, bytes)?;
     match info.scale(request.mip) {
-        Some(scale) => plan_scale(alloc, request, scale),
+        Some(scale) => plan_scale(alloc, request, earlier, scale),
         None => Err(MakeError::NoScale {
             mip: request.mip,
             count: info.count(),
@@ -209,7 +283,7 @@ pub fn plan(alloc: Global, request: &Request, bytes: &Bytes) -> Result<Stage, Ma
     }
 }
 
-/// Whether the shape, the number of tasks and the greatest task of the copy are lawful, so that it can be run.
+/// Whether the shape, the number of tasks and the greatest task of the stage are lawful, so that it can be run.
 pub fn check_fit(stage: &Stage) -> Result<(), MakeError>
     requires { IsDraft stage.now }
     ensures judged { JudgesFit (unfit stage.now) result }

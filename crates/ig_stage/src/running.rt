@@ -1,13 +1,12 @@
-//! Runs a copy that is planned: puts its info, and then, task by task, reads the inputs and puts the outputs.
+//! Runs a stage that is planned: puts its info, and then, task by task, reads the inputs and puts the outputs.
 ghost use Rattle.std.specs.Prelude.{◌≡◌, ◌<◌, [], ◌∷◌, Some, IfOk};
-ghost use Rattle.ig_record.specs.declared.stage.InfoFile as declared;
 ghost use Rattle.ig_record.specs.Columns.{inputs_of};
 ghost use Rattle.ig_record.specs.Stage.{task_count};
 ghost use Rattle.ig_cutout.specs.Inputs.{paths_of};
 ghost use Rattle.ig_stage.specs.Drafts.{CanRun};
 ghost use Rattle.ig_stage.specs.Errors.{HasCauseFor};
 ghost use Rattle.ig_stage.specs.Pipeline.{local_rule};
-ghost use Rattle.ig_stage.specs.Running.{ending_of, PutsFile, PutsOutputs, ReadsInputs, Runs, RunsTask};
+ghost use Rattle.ig_stage.specs.Running.{ending_of, PutsFile, PutsInfo, PutsOutputs, ReadsInputs, Runs, RunsTask};
 
 use crate::LocalError;
 use crate::calls::{put, read};
@@ -101,7 +100,7 @@ fn put_info<S: Store<Pipeline>>(store: &mut S, stage: &Stage) -> Result<(), Loca
     requires rule { S.rule store.old ≡ local_rule }
     ensures rule { S.rule store.new ≡ local_rule }
     ensures cause { HasCauseFor (S.faults store.old) (S.faults store.new) (ending_of result) }
-    ensures did { S.tells → (info : declared.InfoFile) → stage.now.info ≡ Some info → PutsFile (S.log store.old) (S.log store.new) info.path info.text result }
+    ensures did { S.tells → PutsInfo stage.now.info (S.log store.old) (S.log store.new) result }
 {
     match &stage.info {
         Some(info) => put_file(store, &info.path, &info.text),
@@ -109,7 +108,7 @@ fn put_info<S: Store<Pipeline>>(store: &mut S, stage: &Stage) -> Result<(), Loca
     }
 }
 
-/// Puts the info of a planned copy and runs its tasks, in order.
+/// Puts the info of a planned stage, if it has one, and runs its tasks, in order.
 pub fn run<S: Store<Pipeline>>(
     alloc: Global,
     store: &mut S,

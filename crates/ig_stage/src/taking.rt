@@ -1,19 +1,19 @@
 //! Looks whether an earlier stage of a queue has one of the directories of a new one.
 ghost use Rattle.std.specs.Prelude.{◌≡◌, ◌≢◌, ◌≤◌, ◌^◌, ◌∷◌, List as list, ℕ, IfSome, IsNone, Some, length, codes};
 ghost use Rattle.ig_space.specs.Path.{joined};
-ghost use Rattle.ig_record.specs.Columns.{dirs_of_all, output_dirs, removed_dir};
+ghost use Rattle.ig_record.specs.Columns.{output_dirs, removed_dir};
 ghost use Rattle.ig_meaning.specs.Taken.{has_info_among, removes_one, share_one, taker_from, takes};
 
 use crate::Stages;
 use ig_record::{InfoFile, Stage, removed, writes_in};
-use ig_space::Place;
+use ig_space::Paths;
 
-/// Whether one of these scales has an output directory of the stage.
-fn share_one(places: &[Place], stage: &Stage) -> bool
-    ensures { result ≡ share_one (dirs_of_all places.now) (output_dirs stage.now) }
+/// Whether one of these directories is an output directory of the stage.
+fn share_one(dirs: &Paths, stage: &Stage) -> bool
+    ensures { result ≡ share_one dirs.now (output_dirs stage.now) }
 {
-    for place in places {
-        if writes_in(stage, place.dir.as_bytes()) {
+    for dir in dirs.as_slice() {
+        if writes_in(stage, dir.as_bytes()) {
             return true;
         }
     }
@@ -66,26 +66,26 @@ fn removes_one(earlier: &Stage, new: &Stage) -> bool
     }
 }
 
-/// Whether the earlier stage has one of the directories of the new one, which writes scales.
-fn takes(earlier: &Stage, new: &Stage) -> bool
-    requires { output_dirs new.now ≡ dirs_of_all new.now.dests }
+/// Whether the earlier stage has one of the directories of the new one, which writes in these.
+fn takes(earlier: &Stage, new: &Stage, dirs: &Paths) -> bool
+    requires { dirs.now ≡ output_dirs new.now }
     ensures { result ≡ takes earlier.now new.now }
 {
-    share_one(new.dests.as_slice(), earlier)
+    share_one(dirs, earlier)
         || has_info_among(new, earlier)
         || has_info_among(earlier, new)
         || removes_one(earlier, new)
 }
 
-/// The number of the first of these stages that has one of the directories of the new one, which writes scales.
-pub fn taker(stages: &Stages, new: &Stage) -> Option<u32>
+/// The number of the first of these stages that has one of the directories of the new one, which writes in these.
+pub fn taker(stages: &Stages, new: &Stage, dirs: &Paths) -> Option<u32>
     requires few { length stages.now ≤ 10 ^ 4 }
-    requires scales { output_dirs new.now ≡ dirs_of_all new.now.dests }
+    requires dirs { dirs.now ≡ output_dirs new.now }
     ensures { result ≡ taker_from 0 stages.now new.now }
 {
     let mut number = 0;
     for stage in stages.as_slice() {
-        if takes(stage, new) {
+        if takes(stage, new, dirs) {
             return Some(number);
         }
         number += 1;

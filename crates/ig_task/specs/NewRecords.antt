@@ -1,4 +1,4 @@
--- The record of a new copy may be put after those of the stages that are known, and opens a stage without seal.
+-- The record of a new stage may be put after those of the stages that are known, and opens a stage without seal.
 use Rattle.std.specs.Prelude.{◌≡◌, ◌⊎◌, ◌<◌, ◌^◌, ℕ, zero, suc, true, false, is_some, List, [], ◌∷◌, ◌++◌, Option, None, Some, IsSome, length, slice_get, option_map, option_and_then, refl}
 use Rattle.std.specs.List.{All}
 use Rattle.std.proofs.Common.{inl, inr, arith, ap, sym, subst, lt-ltb, ◌∙◌}
@@ -12,6 +12,7 @@ use Rattle.ig_record.specs.ReadingLaws.{IsRecord-record_in}
 use Rattle.ig_record.specs.Record.{record_text}
 use Rattle.ig_record.specs.Sound.{is_sound}
 use Rattle.ig_record.specs.Columns.{output_dirs, removed_dir}
+use Rattle.ig_meaning.specs.Making.{fresh_info}
 use Rattle.ig_meaning.specs.QueueMaking.{record_path}
 use Rattle.ig_meaning.specs.Taken.{taken_by}
 use Rattle.ig_rule.specs.Facts.{Facts, KindLaws, LiesInOne}
@@ -43,10 +44,10 @@ record_there : (q : List ℕ) (stages : List Stage) (files : Files) → KnowsSta
 record_there q stages files k n below =
     text_there (stage_reader n) (queue_of q files (Record n)) (k.sound.numbered.present n (let e = count_is q stages files k in omega (arith, e, below)))
 
--- Where all stages before it are sealed, the record of a copy that has room may be put.
+-- Where all stages before it are sealed, the record of a stage that has room may be put.
 pub puts_record : (q : List ℕ) (stages : List Stage) (s : Stage) (files : Files) → KnowsStages q stages files → All (λ t. is_sound t ≡ true) stages → is_sound s ≡ true → is_some (removed_dir s) ≡ false
     → taken_by stages s ≡ None → IsOutsideQueue q (facts_of (length stages) s) → ((path : List ℕ) → LiesInOne (output_dirs s) path → file_at files path ≡ None)
-    → ((info : InfoFile) → s.info ≡ Some info → file_at files info.path ≡ None) → length stages < 10 ^ 4 → ((n : ℕ) → n < length stages → Sealed (queue_of q files) n)
+    → ((info : InfoFile) → fresh_info s ≡ Some info → file_at files info.path ≡ None) → length stages < 10 ^ 4 → ((n : ℕ) → n < length stages → Sealed (queue_of q files) n)
     → PutsRecord stage_reader (queue_of q files) q files (record_path q (length stages)) (record_text (length stages) s)
 puts_record q stages s files k all sound makes free outside empty fresh few sealed = record {
   number = length stages;

@@ -1,5 +1,5 @@
--- A new copy has room in a queue where no recorded stage has one of its directories.
-use Rattle.std.specs.Prelude.{◌≡◌, ℕ, true, false, List, Option, None, Some, Ok, is_some, option_map, slice_get, Contains, codes, refl}
+-- A new stage has room in a queue where no recorded stage has one of its directories.
+use Rattle.std.specs.Prelude.{◌≡◌, ℕ, Bool, true, false, List, Option, None, Some, Ok, is_some, option_map, slice_get, Contains, codes, refl}
 use Rattle.std.specs.List.{All}
 use Rattle.std.proofs.Common.{ap, sym, subst, true≢false, ◌∙◌}
 use Rattle.std.proofs.lemmas.Option.{get_or_from_slice_get, slice_get_within}
@@ -13,13 +13,13 @@ use Rattle.ig_record.specs.declared.stage.Stage.{Stage}
 use Rattle.ig_record.specs.Sound.{is_sound}
 use Rattle.ig_record.specs.SoundRows.{IsSoundKind, is_xfer, is_remove}
 use Rattle.ig_record.specs.SoundStages.{sound-kind}
-use Rattle.ig_record.specs.Columns.{output_dirs, removed_by, removed_dir}
+use Rattle.ig_record.specs.Columns.{needs_fresh_info, output_dirs, removed_by, removed_dir}
 use Rattle.ig_meaning.specs.Plan.{planned}
-use Rattle.ig_meaning.specs.QueueApart.{outside-layer, planned-copy}
-use Rattle.ig_meaning.specs.QueueWords.{is_apart}
+use Rattle.ig_meaning.specs.Making.{fresh_info, info_if}
+use Rattle.ig_meaning.specs.QueueApart.{AreLayersApart, outside-layers, planned-placed}
 use Rattle.ig_meaning.specs.Jobs.{file_of}
 use Rattle.ig_meaning.specs.Taken.{taken_by}
-use Rattle.ig_meaning.specs.TakenLaws.{HasNoneOf, none_in, not_taken, the_only}
+use Rattle.ig_meaning.specs.TakenLaws.{HasNoneOf, none_in, not_taken}
 use Rattle.ig_meaning.specs.Words.{Request}
 use Rattle.ig_rule.specs.Dirs.{IsOutside}
 use Rattle.ig_rule.specs.DirPaths.{dir_within}
@@ -47,18 +47,19 @@ info_of (Some info) file e = record { info = info; is = refl; file_is = file_is 
 
 -- ---- outside the queue
 
--- A copy that is planned between layers apart from the queue's directory is outside it.
-pub outside-copy : (q : List ℕ) (request : Request) (bytes : List ℕ) (s : Stage) (m : ℕ) → planned request bytes ≡ Ok s → is_apart q request.source ≡ true → is_apart q request.dest ≡ true
+-- What is planned between layers apart from the queue's directory is outside it.
+pub outside-planned : (q : List ℕ) (earlier : List Stage) (request : Request) (bytes : List ℕ) (s : Stage) (m : ℕ) → planned earlier request bytes ≡ Ok s → AreLayersApart q request
     → IsOutsideQueue q (facts_of m s)
-outside-copy q request bytes s m is source dest =
-    let p = planned-copy request bytes s is in
-    subst (λ t. IsOutsideQueue q (facts_of m t)) p.is
-    (record {
-      source = outside-layer q request.source p.scale.key source;
-      outputs = λ dir among. subst (IsOutside q) (the_only (joined request.dest p.new.key) dir among) (outside-layer q request.dest p.new.key dest);
+outside-planned q earlier request bytes s m is apart =
+    let p = planned-placed earlier request bytes s is in
+    record {
+      source = outside-layers q request s.source.dir apart p.source;
+      outputs = λ dir among. outside-layers q request dir apart (p.outputs dir among);
       inputs = λ dir among. absurd (none_in dir among);
-      info = λ file e. subst (λ (f : File). IsOutside q f.path) (file_is _ file e) (outside-layer q request.dest (codes "info") dest);
-    })
+      info = λ file e.
+          let i = info_of s.info file e in
+          subst (λ (f : File). IsOutside q f.path) i.file_is (outside-layers q request i.info.path apart (p.info i.info i.is));
+    }
 
 -- ---- apart from an earlier stage
 
@@ -117,16 +118,21 @@ known_at stages n t (Some stage) is e = let same : facts_of n stage ≡ t = cc i
 all_sound : (stages : List Stage) → All (λ t. is_sound t ≡ true) stages → (n : ℕ) (t : Stage) → slice_get stages n ≡ Some t → is_sound t ≡ true
 all_sound stages all n t is = subst (λ u. is_sound u ≡ true) (get_or_from_slice_get stages n t t is) (all n t (slice_get_within stages n t is))
 
--- a copy removes nothing
--- A new copy has room, where its output directories hold no file and its info is not there.
+-- the info that has to be new
+fresh_if : (b : Bool) (info : Option InfoFile) → b ≡ true → info_if b info ≡ info
+fresh_if true info needs = refl
+fresh_if false info needs = absurd (true≢false (sym needs))
+
+-- A new stage that builds on no other has room, where its output directories hold no file and its info is not there if it has to be
+-- new.
 pub room-from : (q : List ℕ) (stages : List Stage) (s : Stage) (files : Files) (m : ℕ) → KnowsStages q stages files → All (λ t. is_sound t ≡ true) stages → is_sound s ≡ true → is_some (removed_dir s) ≡ false
     → taken_by stages s ≡ None → IsOutsideQueue q (facts_of m s) → ((path : List ℕ) → LiesInOne (output_dirs s) path → file_at files path ≡ None)
-    → ((info : InfoFile) → s.info ≡ Some info → file_at files info.path ≡ None) → Room (stages_in stage_reader q files) (queue_of q files) q files m (facts_of m s)
+    → ((info : InfoFile) → fresh_info s ≡ Some info → file_at files info.path ≡ None) → Room (stages_in stage_reader q files) (queue_of q files) q files m (facts_of m s)
 room-from q stages s files m k all sound makes free outside empty fresh = record {
   empty = empty;
   fresh_info = λ needs file e.
       let i = info_of s.info file e in
-      subst (λ (f : File). file_at files f.path ≡ None) i.file_is (fresh i.info i.is);
+      subst (λ (f : File). file_at files f.path ≡ None) i.file_is (fresh i.info (fresh_if (needs_fresh_info s.kind) s.info needs ∙ i.is));
   apart = λ n t is.
       let u = known_at stages n t (slice_get stages n) refl (sym (k.recorded n) ∙ is) in
       subst (AreApart (facts_of m s)) u.facts (apart-earlier s u.stage m n sound (all_sound stages all n u.stage u.is) (not_taken stages s free n u.stage u.is));

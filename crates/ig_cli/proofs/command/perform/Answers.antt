@@ -8,7 +8,7 @@ pub copy-requires-clause-rule : goal.copy-requires-clause-rule
 copy-requires-clause-rule g c =
     c.requires.rule
     ∙ rule_of_copy (texts_of c.args.words.now.items) _
-    (sym c.in_ok-request.ensures.value ∙ ap (option_map shown_command) c.in-Some-Copy.is ∙ ap (λ command. Some (shown_command command)) c.in-Some-Copy.field-0-is)
+    (sym c.in_ok-request.ensures.value ∙ ap (option_map shown_command) c.in-Some-Local.is ∙ ap (λ command. Some (shown_command command)) c.in-Some-Local.field-0-is)
 
 pub enqueue-requires-clause-rule : goal.enqueue-requires-clause-rule
 enqueue-requires-clause-rule g c =
@@ -16,10 +16,10 @@ enqueue-requires-clause-rule g c =
     ∙ rule_of_enqueue (texts_of c.args.words.now.items) _ _
     (sym c.in_ok-request.ensures.value ∙ ap (option_map shown_command) c.in-Some-Enqueue.is ∙ ap (λ command. Some (shown_command command)) c.in-Some-Enqueue.field-0-is)
 
-pub returns-in-Some-Copy-clause-performed : goal.returns-in-Some-Copy-clause-performed
-returns-in-Some-Copy-clause-performed g c = λ tells.
+pub returns-in-Some-Local-clause-performed : goal.returns-in-Some-Local-clause-performed
+returns-in-Some-Local-clause-performed g c = λ tells.
     c.copy.ensures.performed tells (texts_of c.args.words.now.items)
-    (sym c.in_ok-request.ensures.value ∙ ap (option_map shown_command) c.in-Some-Copy.is ∙ ap (λ command. Some (shown_command command)) c.in-Some-Copy.field-0-is)
+    (sym c.in_ok-request.ensures.value ∙ ap (option_map shown_command) c.in-Some-Local.is ∙ ap (λ command. Some (shown_command command)) c.in-Some-Local.field-0-is)
 
 pub returns-in-Some-Enqueue-clause-performed : goal.returns-in-Some-Enqueue-clause-performed
 returns-in-Some-Enqueue-clause-performed g c = λ tells.

@@ -1,6 +1,6 @@
 use Rattle.std.proofs.Common.{arith, ◌∙◌, length, ap, subst, Err}
 use Rattle.std.proofs.lemmas.Result.{err_from_is_err_and}
-use Rattle.ig_meaning.specs.Making.{New, making_of_copy}
+use Rattle.ig_meaning.specs.Making.{New, making_of_request}
 use Rattle.ig_meaning.specs.QueueMaking.{making_of_new}
 use Rattle.ig_task.specs.Pipeline.{is_allowed}
 use Rattle.ig_stage.specs.Made.{MakesBy}
@@ -19,7 +19,7 @@ returns-in_err-stage-clause-made g c = λ tells.
     let stages = c.args.stages.now in
     let request = shown_request c.args.want.now in
     let p = err_from_is_err_and c.from_residual.result c.from_residual.ensures.1 in
-    makes_as _ q (making_of_new request stages) (making_of_copy stages (New (length stages)) request) _ _ _ (new_few request stages (omega (arith, c.len-number.ensures, c.if-number-ge10000.false)))
+    makes_as _ q (making_of_new request stages) (making_of_request stages (New (length stages)) request) _ _ _ (new_few request stages (omega (arith, c.len-number.ensures, c.if-number-ge10000.false)))
     (looks_fail _ q _ _ _ _ c.in_err-stage.field-0.0 _ (p.1 ∙ ap Err p.2) (c.in_err-stage.ensures.looks tells (New (length stages))))
 
 pub returns-in_err-stage-clause-legal : goal.returns-in_err-stage-clause-legal
@@ -31,7 +31,7 @@ returns-clause-made g c = λ tells.
     let q = c.args.queue.now in
     let stages = c.args.stages.now in
     let request = shown_request c.args.want.now in
-    makes_as _ q (making_of_new request stages) (making_of_copy stages (New (length stages)) request) _ _ _ (new_few request stages (omega (arith, c.len-number.ensures, c.if-number-ge10000.false)))
+    makes_as _ q (making_of_new request stages) (making_of_request stages (New (length stages)) request) _ _ _ (new_few request stages (omega (arith, c.len-number.ensures, c.if-number-ge10000.false)))
     (looks_then_makes _ q _ _ _ _ _ c.in_ok-stage.stage _ (c.in_ok-stage.ensures.looks tells (New (length stages)))
     (subst (λ n. MakesBy (is_allowed (g.S.Store.rule c.args.store.now)) q (New n c.in_ok-stage.stage) (g.S.Store.log c.check.new.store) (g.S.Store.log c.make_new.new.store) c.make_new.result)
     c.len-number.ensures (makes_under _ _ q _ _ _ _ c.check.ensures.rule (c.make_new.ensures.made tells))))
@@ -44,7 +44,7 @@ returns-clause-legal g c = λ tells rule layers all finds legal.
     (may_record _ _ q _ stages c.in_ok-stage.stage (shown_request c.args.want.now) _ _ _ _ _ rule c.check.ensures.rule c.len-number.ensures
     (omega (arith, c.len-number.ensures, c.if-number-ge10000.false)) layers all finds legal (c.in_ok-stage.ensures.looks tells (New (length stages)))
     c.in_ok-stage.ensures.can_run c.in_ok-stage.ensures.planned c.in_ok-stage.ensures.not_taken
-    (c.in_ok-stage.ensures.free tells q layers.source layers.dest (record { is = rule; knows = finds.knows })))
+    (c.in_ok-stage.ensures.free tells q layers (record { is = rule; knows = finds.knows })))
 
 pub returns-clause-sealed : goal.returns-clause-sealed
 returns-clause-sealed g c = λ tells rule layers all finds legal.
@@ -54,4 +54,4 @@ returns-clause-sealed g c = λ tells rule layers all finds legal.
     (may_record _ _ q _ stages c.in_ok-stage.stage (shown_request c.args.want.now) _ _ _ _ _ rule c.check.ensures.rule c.len-number.ensures
     (omega (arith, c.len-number.ensures, c.if-number-ge10000.false)) layers all finds legal (c.in_ok-stage.ensures.looks tells (New (length stages)))
     c.in_ok-stage.ensures.can_run c.in_ok-stage.ensures.planned c.in_ok-stage.ensures.not_taken
-    (c.in_ok-stage.ensures.free tells q layers.source layers.dest (record { is = rule; knows = finds.knows })))
+    (c.in_ok-stage.ensures.free tells q layers (record { is = rule; knows = finds.knows })))

@@ -17,13 +17,13 @@ returns-in_err-name_in-in-Some-clause-looks g c = λ tells earlier planned_as s 
 
 pub returns-in-Some-clause-looks : goal.returns-in-Some-clause-looks
 returns-in-Some-clause-looks g c = λ tells earlier planned_as s rest.
-    dir_listed _ earlier planned_as _ _ s c.args.dest.now rest c.in_ok-given.given c.in-Some.name.now _ (sym c.in-Some.ensures) c.in_ok-name_in-in-Some.ensures (c.in_ok-given.ensures.went tells)
+    dir_listed _ earlier planned_as _ _ s c.args.dir.now rest c.in_ok-given.given c.in-Some.name.now _ (sym c.in-Some.ensures) c.in_ok-name_in-in-Some.ensures (c.in_ok-given.ensures.went tells)
     (c.in_ok-given.ensures.lists tells)
 
 pub returns-clause-looks : goal.returns-clause-looks
 returns-clause-looks g c = λ tells earlier planned_as s rest.
-    dir_empty _ earlier planned_as _ _ s c.args.dest.now rest c.in_ok-given.given (empty_from_none _ c.in-None.ensures) (c.in_ok-given.ensures.went tells) (c.in_ok-given.ensures.lists tells)
+    dir_empty _ earlier planned_as _ _ s c.args.dir.now rest c.in_ok-given.given (empty_from_none _ c.in-None.ensures) (c.in_ok-given.ensures.went tells) (c.in_ok-given.ensures.lists tells)
 
 pub returns-clause-empty : goal.returns-clause-empty
 returns-clause-empty g c = λ tells q stages knows.
-    listed_empty _ q stages _ _ c.args.dest.now.dir c.in_ok-given.given (empty_from_none _ c.in-None.ensures) knows (c.in_ok-given.ensures.went tells)
+    listed_empty _ q stages _ _ c.args.dir.now c.in_ok-given.given (empty_from_none _ c.in-None.ensures) knows (c.in_ok-given.ensures.went tells)
