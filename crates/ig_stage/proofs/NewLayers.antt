@@ -48,10 +48,10 @@ empty_from_none (x ∷ xs) none = let no_item : ⊥ = cc in absurd no_item
 
 -- ---- what was found of the info that has to be new
 pub found_some : {B : Type 0} (f : B → InfoFile) (found : Option B) (b : B) (fresh : Option InfoFile) → option_map f found ≡ fresh → found ≡ Some b → fresh ≡ Some (f b)
-found_some f found b fresh as is = sym as ∙ ap (option_map f) is
+found_some f found b fresh same is = sym same ∙ ap (option_map f) is
 
 pub found_none : {B : Type 0} (f : B → InfoFile) (found : Option B) (fresh : Option InfoFile) → option_map f found ≡ fresh → found ≡ None → fresh ≡ None
-found_none f found fresh as is = sym as ∙ ap (option_map f) is
+found_none f found fresh same is = sym same ∙ ap (option_map f) is
 
 module _ (allows : Bool → Files → Act → Type 0) (earlier : List Stage) (planned_as : Stage → List Moment → Making) where
   -- what is left is to look at these directories
