@@ -209,8 +209,8 @@ fresh_is s info is = is_info (needs_fresh_info s.kind) s.info info is
 pub is_free : {T : Type 0} (request : Request) (rule now : Pipeline) (q : List ℕ) (stages : List Stage) (s : Stage) (making : List Moment → Making) (next : T → List Moment → Making)
     (old new : Log) (result : Result T MakeError) → now ≡ rule → AreLayersApart q request → IsPlanned stages request s → CanRun s → taken_by stages s ≡ None
     → KnowsQueue rule q stages (files_of old) → Looks (is_allowed now) making next old new result → HasNoInfo s (files_of old)
-    → (KnowsQueue now q stages (files_of old) → AreEmptyDirs q stages (output_dirs s) (files_of new)) → IsFree q stages s (files_of new)
-is_free {T = T} request rule now q stages s making next old new result same layers planned can free k looks fresh empty = record {
+    → (dirs : List (List ℕ)) → dirs ≡ output_dirs s → (KnowsQueue now q stages (files_of old) → AreEmptyDirs q stages dirs (files_of new)) → IsFree q stages s (files_of new)
+is_free {T = T} request rule now q stages s making next old new result same layers planned can free k looks fresh dirs are empty = record {
   knows = (looks_know {T = T} now q stages making next old new result looks here).knows;
   no_info = λ info has.
       let own = fresh_is s info has in
@@ -219,7 +219,7 @@ is_free {T = T} request rule now q stages s making next old new result same laye
       (info_of_none q stages (files_of old) k.knows s free info own (named_info s info can.sound own))
       ∙ fresh info has;
   empty = λ path l.
-      empty here l.dir l.one path l.lies
+      empty here l.dir (subst (λ (ds : List (List ℕ)). Contains ds l.dir) (sym are) l.one) path l.lies
       (λ x. no_queue_path q l.dir path x (outside.outputs l.dir l.one) l.lies)
       (output_of_none q stages (files_of old) k.knows s free l.dir path l.one l.lies);
 }
