@@ -1,5 +1,5 @@
 -- What a sound stage has.
-use Rattle.std.specs.Prelude.{◌≡◌, ◌≤◌, ◌<◌, ◌+◌, ◌-◌, ◌*◌, ◌/◌, ◌^◌, ℕ, true, ◌&&◌, List, [], None, nat_le}
+use Rattle.std.specs.Prelude.{◌≡◌, ◌≤◌, ◌<◌, ◌+◌, ◌-◌, ◌*◌, ◌/◌, ◌^◌, ℕ, true, ◌&&◌, List, [], None, IfSome, nat_le}
 use Rattle.std.proofs.Common.{arith, refl, ap, ◌∙◌}
 use Rattle.std.proofs.lemmas.Bool.{and_parts, leb-true}
 use Rattle.ig_space.specs.Cells.{cell-within}
@@ -9,7 +9,7 @@ use Rattle.ig_record.specs.declared.stage.Kind.{Kind}
 use Rattle.ig_record.specs.declared.stage.Kind.TheVariants.{Xfer, Downsample, Faces, Links, Labels, Relabel, Count, Sum, Remove}
 use Rattle.ig_record.specs.declared.stage.Stage.{Stage}
 use Rattle.ig_record.specs.Sound.{has_come, has_layers, has_members, has_shape, has_split, has_tasks, is_lawful, is_side, is_sound, is_word}
-use Rattle.ig_record.specs.SoundFacts.{HasSides, IsDir, IsDir-joined, IsSmall, is_none-None, split-from}
+use Rattle.ig_record.specs.SoundFacts.{HasSides, IsDir, IsDir-joined, IsScratch, IsSmall, is_none-None, split-from}
 use Rattle.ig_record.specs.SoundKinds.{IsOfKind, kind-of}
 use Rattle.ig_record.specs.SoundRows.{HasRow, IsSoundKind, come-kind, row_of}
 use Rattle.ig_record.specs.Stage.{cells, greatest, hull_voxels, most_tasks, most_voxels, shape_unit, task_box, task_count, task_grid, task_size, unfit_axis}

@@ -14,11 +14,11 @@ use Rattle.ig_layer.specs.Faults.{Fault, first_fault, or_else}
 use Rattle.ig_layer.specs.Layer.{Labels, Reading, volume_at}
 use Rattle.ig_layer.specs.Texts.{all_listed, chunk_file, chunk_text, file_if, files_in, label_by_number, labels_in, text_of, with_last}
 use Rattle.ig_record.specs.declared.stage.Kind.{Kind}
-use Rattle.ig_record.specs.declared.stage.Kind.TheVariants.{Xfer, Remove}
+use Rattle.ig_record.specs.declared.stage.Kind.TheVariants.{Xfer, Count, Remove}
 use Rattle.ig_record.specs.declared.stage.Stage.{Stage}
 use Rattle.ig_record.specs.Sound.{has_come, is_sound}
 use Rattle.ig_record.specs.SoundKinds.{IsCopyOf}
-use Rattle.ig_record.specs.SoundRows.{IsSoundKind, is_xfer, is_remove}
+use Rattle.ig_record.specs.SoundRows.{IsSoundKind, is_xfer, is_count, is_remove}
 use Rattle.ig_record.specs.SoundStages.{IsSound-from, sound-come, sound-kind}
 use Rattle.ig_record.specs.Columns.{box_read, inputs_by, inputs_of, paths_of as owned_paths}
 use Rattle.ig_record.specs.Stage.{task_box, task_count}
@@ -42,6 +42,7 @@ use Rattle.ig_task.specs.Tiles.{part-chunk}
 -- ---- a sound stage is a copy or a removal
 copy_by : (s : Stage) → s.kind ≡ Xfer → IsSoundKind s → IsCopyOf s.source s.dests s.info
 copy_by s copies (is_xfer kind scratch copy) = copy
+copy_by s copies (is_count kind scratch at removal) = let no_way : Xfer ≡ Count = sym copies ∙ kind in absurd cc
 copy_by s copies (is_remove kind scratch removal) = let no_way : Xfer ≡ Remove = sym copies ∙ kind in absurd cc
 
 pub copy_of : (s : Stage) → is_sound s ≡ true → s.kind ≡ Xfer → IsCopyOf s.source s.dests s.info

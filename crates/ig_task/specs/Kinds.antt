@@ -1,19 +1,20 @@
 -- Each kind of stage keeps what the laws of the rule rest on.
-use Rattle.std.specs.Prelude.{◌≡◌, ◌≢◌, ◌⊎◌, ◌<◌, ℕ, true, List, [], ◌∷◌, length, Option, None, Some, option_map, Contains, codes, refl}
+use Rattle.std.specs.Prelude.{◌≡◌, ◌≢◌, ◌⊎◌, ◌<◌, ℕ, true, List, [], ◌∷◌, length, Option, None, Some, option_map, Contains, codes, is_some, refl}
 use Rattle.std.proofs.Common.{arith, ap, sym, subst, ◌∙◌, inl, inr, length-append, true≢false}
 use Rattle.std.proofs.lemmas.List.Elements.{Contains-push, Contains-push_cases}
 use Rattle.std.proofs.lemmas.Option.{none-some, same_Some}
 use Rattle.ig_space.specs.Path.{joined}
 use Rattle.ig_defs.specs.Own.{File}
-use Rattle.ig_record.specs.declared.stage.Kind.TheVariants.{Xfer, Remove}
+use Rattle.ig_record.specs.declared.stage.Kind.TheVariants.{Xfer, Count, Remove}
 use Rattle.ig_record.specs.declared.stage.Stage.{Stage}
 use Rattle.ig_record.specs.Reading.{record_in}
 use Rattle.ig_record.specs.ReadingLaws.{record_in-IsRecord}
 use Rattle.ig_record.specs.Sound.{is_sound}
 use Rattle.ig_record.specs.SoundStages.{IsSound, IsSound-from, sound-kind}
 use Rattle.ig_record.specs.SoundKinds.{IsCopyOf, IsRemoval}
-use Rattle.ig_record.specs.SoundRows.{IsSoundKind, is_remove, is_xfer}
-use Rattle.ig_record.specs.Columns.{output_dirs}
+use Rattle.ig_record.specs.SoundRows.{IsSoundKind, is_count, is_remove, is_xfer}
+use Rattle.ig_record.specs.Columns.{output_dirs, removed_by}
+use Rattle.ig_record.specs.declared.stage.Kind.{Kind}
 use Rattle.ig_meaning.specs.ChunkPlaces.{chunk-lies, chunk-not_info, is_chunk_of-from, is_chunk_of-is}
 use Rattle.ig_meaning.specs.Jobs.{file_of}
 use Rattle.ig_meaning.specs.Lasting.{wanted-lasts}
@@ -21,6 +22,7 @@ use Rattle.ig_rule.specs.DirPaths.{dir_of-segment, dir_within}
 use Rattle.ig_rule.specs.Facts.{Facts, KindLaws, LiesInOne, Pass, StageLaws}
 use Rattle.ig_task.specs.Facts.{facts_of, stage_reader}
 use Rattle.ig_task.specs.OwnedPaths.{chunk-path, copy-makes, copy-outputs, copy-owns, one-task, path-chunk, removal-owns, removal-removes}
+use Rattle.ig_task.specs.Counts.{count-in, count-one, count-path}
 use Rattle.ig_task.specs.OwnWants.{copy-chunk, removal-wants_none}
 
 -- ---- the info of a copy
@@ -92,8 +94,27 @@ removal-laws n s h is r =
       few_tasks = h.few;
     }
 
+count-laws : (n : ℕ) (s : Stage) → IsSound s → s.kind ≡ Count → (scratch : List ℕ) → s.scratch ≡ Some scratch → IsRemoval s.dests s.info → StageLaws (facts_of n s)
+count-laws n s h is scratch at r = record {
+  wanted_stays = λ old new path bytes keeps. wanted-lasts s h.fits old new path bytes keeps.kept;
+  wanted_at = λ files path bytes e. count-path s h is scratch at n files path bytes e;
+  path_in = λ makes path u. count-in s h is scratch at n path u;
+  removed_chunk = λ removes path u. absurd (true≢false (sym removes ∙ ap (λ (kind : Kind). is_some (removed_by kind s)) is));
+  one_task = count-one s h is scratch at;
+  chunk_in = λ path e. chunk-lies s.source h.fits h.layers.dir path (is_chunk_of-from s.source path e);
+  chunk_name = λ path e. chunk-not_info s.source h.fits h.layers.dir path (is_chunk_of-from s.source path e);
+  info_name = λ info e. absurd (no_info s r info e);
+  info_apart = λ info e within. no_info s r info e;
+  scratch_stays = λ old new path bytes keeps e. absurd (none-some bytes e);
+  scratch_at = λ files path bytes e. absurd (none-some bytes e);
+  scratch_apart = λ path e. absurd (true≢false (sym e));
+  no_scratch = λ none path e. true≢false (sym e);
+  few_tasks = h.few;
+}
+
 laws-by : (n : ℕ) (s : Stage) → IsSound s → IsSoundKind s → StageLaws (facts_of n s)
 laws-by n s h (is_xfer is none c) = copy-laws n s h is c
+laws-by n s h (is_count is scratch at r) = count-laws n s h is scratch at r
 laws-by n s h (is_remove is none r) = removal-laws n s h is r
 
 -- What a sound stage keeps.

@@ -9,9 +9,11 @@ pub mod Maker
 pub mod MakerLaws
 pub mod Rooms
 pub mod NewRecords
+pub mod Counts
 pub mod OwnWants
 pub mod MadeOutputs
 pub mod Runs
 pub mod OwnInputs
 pub mod PutOutputs
 pub mod WholeCopies
+pub mod NumberedFiles

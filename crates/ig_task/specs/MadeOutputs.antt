@@ -8,7 +8,7 @@ use Rattle.ig_record.specs.declared.stage.Kind.{Kind}
 use Rattle.ig_record.specs.declared.stage.Stage.{Stage}
 use Rattle.ig_record.specs.Columns.{paths_of, removed_dir, scratch_read}
 use Rattle.ig_record.specs.Sound.{is_sound}
-use Rattle.ig_record.specs.SoundRows.{IsSoundKind, is_remove, is_xfer}
+use Rattle.ig_record.specs.SoundRows.{IsSoundKind, is_count, is_remove, is_xfer}
 use Rattle.ig_record.specs.SoundStages.{IsSound-from, sound-kind}
 use Rattle.ig_record.specs.Stage.{task_count}
 use Rattle.ig_meaning.specs.Agreeing.{further, here}
@@ -66,6 +66,7 @@ are-wanted s sound k below files outputs e = record {
 -- no kind that has come builds on earlier passes
 pub no_scratch : (s : Stage) → IsSoundKind s → (k : ℕ) → scratch_read s.kind s k ≡ []
 no_scratch s (is_xfer is none c) k = ap (λ (kind : Kind). scratch_read kind s k) is
+no_scratch s (is_count is scratch at r) k = ap (λ (kind : Kind). scratch_read kind s k) is
 no_scratch s (is_remove is none r) k = ap (λ (kind : Kind). scratch_read kind s k) is
 
 -- The texts of earlier passes that a task is to be given are those that these want.

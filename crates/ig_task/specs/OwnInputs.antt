@@ -12,9 +12,9 @@ use Rattle.ig_space.specs.HullCells.{hull-cells}
 use Rattle.ig_record.specs.declared.stage.InfoFile.{InfoFile}
 use Rattle.ig_record.specs.declared.stage.Kind.{Kind}
 use Rattle.ig_record.specs.declared.stage.Stage.{Stage}
-use Rattle.ig_record.specs.Columns.{box_read, chunks_met, inputs_by, inputs_of, output_dirs, paths_of, removed_dir, scratch_read}
+use Rattle.ig_record.specs.Columns.{box_read, chunks_met, inputs_by, inputs_of, output_dirs, paths_of, removed_by, removed_dir, scratch_read}
 use Rattle.ig_record.specs.Sound.{is_sound}
-use Rattle.ig_record.specs.SoundRows.{IsSoundKind, is_remove, is_xfer}
+use Rattle.ig_record.specs.SoundRows.{IsSoundKind, is_count, is_remove, is_xfer}
 use Rattle.ig_record.specs.SoundStages.{IsSound, IsSound-from, sound-kind, tasks-IsGrid}
 use Rattle.ig_record.specs.Stage.{task_box, task_count, task_grid}
 use Rattle.ig_meaning.specs.Agreeing.{voxel-chunk}
@@ -55,6 +55,10 @@ input_by s h (is_xfer is none c) k below path among = record {
   is_chunk = chunk_met s h k below path (subst (λ (paths : List (List ℕ)). Contains paths path) (ap (λ (kind : Kind). inputs_by kind s k) is ∙ append-nil (chunks_in s.source (task_box s k))) among);
   makes = copy-makes s is;
 }
+input_by s h (is_count is scratch at r) k below path among = record {
+  is_chunk = chunk_met s h k below path (subst (λ (paths : List (List ℕ)). Contains paths path) (ap (λ (kind : Kind). inputs_by kind s k) is ∙ append-nil (chunks_in s.source (task_box s k))) among);
+  makes = ap (λ (kind : Kind). is_some (removed_by kind s)) is;
+}
 input_by s h (is_remove is none r) k below path among = absurd (nothing_in path (subst (λ (kind : Kind). Contains (inputs_by kind s k) path) is among))
 
 pub inputs_are : (s : Stage) → is_sound s ≡ true → (k : ℕ) → k < task_count s → (path : List ℕ) → Contains (inputs_of s k) path → IsInput s path
@@ -72,6 +76,7 @@ some_read s h k below reads =
 
 some_by : (s : Stage) → IsSound s → IsSoundKind s → is_some (removed_dir s) ≡ false → (k : ℕ) → k < task_count s → 0 < length (inputs_of s k)
 some_by s h (is_xfer is none c) makes k below = some_read s h k below (ap (λ (kind : Kind). box_read kind s k) is)
+some_by s h (is_count is scratch at r) makes k below = some_read s h k below (ap (λ (kind : Kind). box_read kind s k) is)
 some_by s h (is_remove is none r) makes k below = absurd (true≢false (sym (removal-removes s is) ∙ makes))
 
 -- Each task of a stage that makes files has an input.

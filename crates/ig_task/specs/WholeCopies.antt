@@ -2,10 +2,10 @@
 use Rattle.std.specs.Prelude.{◌≡◌, ℕ, true, List, [], ◌∷◌}
 use Rattle.std.proofs.Common.{sym, subst, ◌∙◌}
 use Rattle.ig_space.specs.declared.place.Place.{Place}
-use Rattle.ig_record.specs.declared.stage.Kind.TheVariants.{Xfer, Remove}
+use Rattle.ig_record.specs.declared.stage.Kind.TheVariants.{Xfer, Count, Remove}
 use Rattle.ig_record.specs.declared.stage.Stage.{Stage}
 use Rattle.ig_record.specs.Sound.{is_sound}
-use Rattle.ig_record.specs.SoundRows.{IsSoundKind, is_remove, is_xfer}
+use Rattle.ig_record.specs.SoundRows.{IsSoundKind, is_count, is_remove, is_xfer}
 use Rattle.ig_record.specs.SoundStages.{IsSound, IsSound-from, sound-kind}
 use Rattle.ig_meaning.specs.ChunkPlaces.{is_chunk_of-from, is_chunk_of-is}
 use Rattle.ig_meaning.specs.Wants.{is_chunk_of}
@@ -19,6 +19,7 @@ pub record WritesChunks (s : Stage) (place : Place) : Type 0 where
   pub only : (path : List ℕ) → IsPath (facts_of 0 s) path → is_chunk_of place path ≡ true
 
 writes-by : (s : Stage) → IsSound s → IsSoundKind s → s.kind ≡ Xfer → (dest : Place) → s.dests ≡ dest ∷ [] → WritesChunks s dest
+writes-by s h (is_count kind scratch at r) copies dest one = let no_way : Xfer ≡ Count = sym copies ∙ kind in absurd cc
 writes-by s h (is_remove kind none r) copies dest one = let no_way : Xfer ≡ Remove = sym copies ∙ kind in absurd cc
 writes-by s h (is_xfer is none c) copies dest one =
     let owns = copy-owns s h is c in
