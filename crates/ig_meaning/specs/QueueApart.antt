@@ -105,7 +105,7 @@ the_info : (info put : InfoFile) → Some put ≡ Some info → put ≡ info
 the_info info put e = cc
 
 copy-placed : (request : Request) → writes_layer request.kind ≡ true → (scale new : Scale) (info : InfoData) → IsPlaced request (copy_stage request scale new info)
-copy-placed request writes scale new data = record {
+copy-placed request writes scale new members = record {
   source = in_source scale.key refl;
   outputs = λ dir among. in_new writes new.key (sym (the_only (joined (new_layer request) new.key) dir among));
   info = λ info is. in_new writes (codes "info") (ap (λ (i : InfoFile). i.path) (sym (the_info info _ is)));
