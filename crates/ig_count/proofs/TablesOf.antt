@@ -1,5 +1,5 @@
 -- The table that is made voxel by voxel is the table of the labels.
-use Rattle.std.proofs.Common.{arith, ◌≡◌, ◌≢◌, ◌+◌, ◌<◌, ◌≤◌, ◌==◌, ◌^◌, ℕ, zero, suc, Bool, true, false, nat_lt, List, [], ◌∷◌, length, if◌then◌else◌, IfOk, Result, Ok, Err, refl, ap, sym, ◌∙◌}
+use Rattle.std.proofs.Common.{arith, ◌≡◌, ◌≢◌, ◌+◌, ◌≤◌, ◌==◌, ◌^◌, ℕ, zero, suc, Bool, true, false, nat_lt, List, [], ◌∷◌, length, if◌then◌else◌, IfOk, Result, Ok, Err, refl, ap, sym, ◌∙◌}
 use Rattle.std.proofs.lemmas.Bool.{eqb-false, eqb-true, ltb-false, ltb-true}
 use Rattle.std.proofs.lemmas.List.Sums.{count_by-le-length, sum_by-cons}
 use Rattle.std.specs.List.{All}
@@ -14,7 +14,7 @@ tested label c cs below same = if below then one_voxel label ∷ c ∷ cs else (
 
 -- ---- it has a voxel more of the label
 one_more : (b : Bool) (voxels : ℕ) → (if b then suc voxels else 0) ≡ (if b then 1 else 0) + (if b then voxels else 0)
-one_more true voxels = refl
+one_more true voxels = omega arith
 one_more false voxels = refl
 
 tally_tested : (label l : ℕ) (c : LabelCount) (cs : List LabelCount) (below same : Bool) → (same ≡ true → c.label ≡ label) → tally (with_voxel label cs) l ≡ where_same label l 1 + tally cs l
@@ -37,7 +37,7 @@ each (label ∷ labels) l = tally-with label l (counts_of labels) ∙ ap (λ n. 
 -- ---- its labels ascend
 from_tested : (low label : ℕ) (c : LabelCount) (cs : List LabelCount) → low ≤ label → IsFrom low (c ∷ cs) → (suc c.label ≤ label → IsFrom (suc c.label) (with_voxel label cs))
     → (below same : Bool) → nat_lt label c.label ≡ below → (c.label == label) ≡ same → IsFrom low (tested label c cs below same)
-from_tested low label c cs above from rest true same less is = (above, omega arith, ltb-true label c.label less, from.1, from.2)
+from_tested low label c cs above from rest true same less is = (above, omega arith, (ltb-true label c.label less, from.1, from.2))
 from_tested low label c cs above from rest false true less is = (from.0, omega arith, from.2)
 from_tested low label c cs above from rest false false less is =
     let other : c.label ≢ label = eqb-false c.label label is in
