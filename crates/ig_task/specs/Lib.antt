@@ -9,11 +9,14 @@ pub mod Maker
 pub mod MakerLaws
 pub mod Rooms
 pub mod NewRecords
-pub mod Counts
 pub mod OwnWants
+pub mod KindFacts
+pub mod Copies
+pub mod NumberedFiles
+pub mod NumberedStages
+pub mod Counts
 pub mod MadeOutputs
 pub mod Runs
 pub mod OwnInputs
 pub mod PutOutputs
 pub mod WholeCopies
-pub mod NumberedFiles

@@ -1,11 +1,11 @@
 -- The numbered files of a pass: a path is of one number, and lies directly in their directory.
-use Rattle.std.specs.Prelude.{◌≡◌, ◌^◌, ◌<◌, ◌≤◌, ℕ, ◌+◌, Bool, true, false, if◌then◌else◌, List, [], ◌∷◌, ◌++◌, length, Option, None, Some, Contains, refl}
+use Rattle.std.specs.Prelude.{◌≡◌, ◌^◌, ◌<◌, ◌≤◌, ℕ, ◌+◌, Bool, true, false, if◌then◌else◌, List, ◌∷◌, ◌++◌, length, None, Some, refl}
 use Rattle.std.specs.Str.{bytes_eq}
 use Rattle.std.proofs.Common.{arith, ap, sym, subst, ◌∙◌, length-append}
 use Rattle.std.proofs.lemmas.List.{append_cancel_left}
 use Rattle.std.proofs.lemmas.Option.{none-some, same_Some}
 use Rattle.std.proofs.lemmas.Slice.Eq.{bytes_eq-Decides}
-use Rattle.ig_space.specs.Path.{is_path, is_segment, joined}
+use Rattle.ig_space.specs.Path.{is_path}
 use Rattle.ig_space.specs.Segments.{is_path-joined}
 use Rattle.ig_defs.specs.OneSegment.{is_path-segment}
 use Rattle.ig_defs.specs.QueueNameLaws.{are_bytes, digits-first, is_segment-digits, length-digits}
