@@ -3,3 +3,4 @@ pub mod MergeSteps
 pub mod FileLaws
 pub mod TableLaws
 pub mod SortedRuns
+pub mod TablesOf

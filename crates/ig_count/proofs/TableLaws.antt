@@ -6,10 +6,10 @@ use Rattle.ig_count.specs.declared.counts.LabelCount.{LabelCount}
 use Rattle.ig_count.specs.CountsFile.{AreFew}
 use Rattle.ig_count.specs.Tables.{AreCounts, IsFrom, IsListed, IsMerged, IsTable, tally, times, voxels_at}
 
-first : (c : LabelCount) (cs : List LabelCount) (label : ℕ) → tally (c ∷ cs) label ≡ voxels_at label c + tally cs label
+pub first : (c : LabelCount) (cs : List LabelCount) (label : ℕ) → tally (c ∷ cs) label ≡ voxels_at label c + tally cs label
 first c cs label = sum_by-cons (voxels_at label) c cs
 
-own : (c : LabelCount) (label : ℕ) → c.label ≡ label → voxels_at label c ≡ c.voxels
+pub own : (c : LabelCount) (label : ℕ) → c.label ≡ label → voxels_at label c ≡ c.voxels
 own c label same = ap (λ b. if b then c.voxels else 0) (eq-eqb c.label label same)
 
 none : (c : LabelCount) (label : ℕ) → (c.label ≡ label → ⊥) → voxels_at label c ≡ 0

@@ -1,5 +1,5 @@
 -- Tables of counts: each label that occurs with its number of voxels, ascending by label.
-use Rattle.std.specs.Prelude.{ℕ, suc, ◌+◌, ◌≤◌, ◌≡◌, ◌==◌, if◌then◌else◌, List, [], ◌∷◌, sum_by, count_by, ◌⊎◌}
+use Rattle.std.specs.Prelude.{ℕ, suc, ◌+◌, ◌≤◌, ◌≡◌, ◌==◌, nat_lt, if◌then◌else◌, List, [], ◌∷◌, sum_by, count_by, ◌⊎◌}
 use Rattle.ig_count.specs.declared.counts.LabelCount.{LabelCount}
 
 -- the labels ascend, from `low` on, and each has a voxel
@@ -40,6 +40,22 @@ times labels label = count_by (λ l. l == label) labels
 pub record AreCounts (labels : List ℕ) (counts : List LabelCount) : Type 0 where
   pub is_table : IsTable counts
   pub each : (label : ℕ) → tally counts label ≡ times labels label
+
+-- a voxel more of a label: in the label's item, or in a new one at its place
+abbrev pub one_voxel : ℕ → LabelCount
+one_voxel label = record { label = label; voxels = 1 }
+
+abbrev pub with_one : LabelCount → LabelCount
+with_one c = record { label = c.label; voxels = suc c.voxels }
+
+abbrev pub with_voxel : ℕ → List LabelCount → List LabelCount
+with_voxel label [] = one_voxel label ∷ []
+with_voxel label (c ∷ cs) = if nat_lt label c.label then one_voxel label ∷ c ∷ cs else (if c.label == label then with_one c ∷ cs else c ∷ with_voxel label cs)
+
+-- that table, made voxel by voxel
+abbrev pub counts_of : List ℕ → List LabelCount
+counts_of [] = []
+counts_of (label ∷ labels) = with_voxel label (counts_of labels)
 
 -- the table that adds the one to the other, label by label
 pub record IsMerged (old more new : List LabelCount) : Type 0 where

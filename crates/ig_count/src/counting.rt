@@ -1,7 +1,7 @@
 ghost use Rattle.std.specs.Prelude.{ℕ, ◌≡◌, ◌≢◌, ◌+◌, ◌-◌, ◌<◌, ◌≤◌, ◌^◌, All, IfOk, OnOk, Some, length, map, slice_index, take, unwrap_or, nat_eq};
 ghost use Rattle.std.specs.HashMap as hash;
 ghost use Rattle.std.specs.List.Sorted.{IsNonDecreasing};
-ghost use Rattle.ig_count.specs.Tables.{AreCounts, as_count, times, where_same};
+ghost use Rattle.ig_count.specs.Tables.{AreCounts, as_count, counts_of, times, where_same};
 
 use crate::{Counts, LabelCount};
 use ig_space::Volume;
@@ -10,7 +10,8 @@ use std::collections::HashMap;
 
 /// The number of voxels of each label that occurs in the volume, 0 too.
 pub fn count(alloc: Global, volume: &Volume) -> Result<Counts, AllocError>
-    ensures { IfOk result (AreCounts volume.now.labels) }
+    ensures counts { IfOk result (AreCounts volume.now.labels) }
+    ensures table { IfOk result (λ counts. counts ≡ counts_of volume.now.labels) }
 {
     if has_many(alloc, volume.labels())? {
         return count_sorted(alloc, volume.labels());

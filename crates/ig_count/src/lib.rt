@@ -11,5 +11,5 @@ mod merging;
 pub use counting::count;
 pub use counts::{Counts, LabelCount};
 pub use file::{read_counts, write_counts};
-pub use laws::{few_fit, lists_labels, one_merged, one_table};
+pub use laws::{counts_of_is_table, few_counted, few_fit, lists_labels, one_merged, one_table};
 pub use merging::merge;

@@ -1,5 +1,6 @@
 pub mod Refusal
 pub mod Stage
+pub mod Numbered
 pub mod Wants
 pub mod Task
 pub mod Jobs

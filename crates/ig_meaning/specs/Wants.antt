@@ -1,5 +1,5 @@
 -- What is wanted of a stage, defined from the whole volume of its source: this project's own.
-use Rattle.std.specs.Prelude.{ℕ, Bool, if◌then◌else◌, List, [], ◌∷◌, ◌++◌, Option, None, Some, is_some, option_and_then, option_map}
+use Rattle.std.specs.Prelude.{ℕ, Bool, if◌then◌else◌, List, [], ◌∷◌, ◌++◌, codes, Option, None, Some, is_some, option_and_then, option_map}
 use Rattle.std.specs.Str.{bytes_eq}
 use Rattle.ig_space.specs.declared.point.Box3.{Box3}
 use Rattle.ig_space.specs.declared.place.Place.{Place}
@@ -9,12 +9,15 @@ use Rattle.ig_space.specs.Grid.{cell, cell_count, chunks_of, size_of}
 use Rattle.ig_layer.specs.Faults.{first_of, or_else}
 use Rattle.ig_layer.specs.Layer.{Labels, Reading, volume_at}
 use Rattle.ig_layer.specs.Texts.{labels_in, text_of}
+use Rattle.ig_count.specs.CountsFile.{counts_text}
+use Rattle.ig_count.specs.Tables.{counts_of}
 use Rattle.ig_cutout.specs.declared.types.Output.{Output}
 use Rattle.ig_record.specs.declared.stage.Kind.{Kind}
-use Rattle.ig_record.specs.declared.stage.Kind.TheVariants.{Xfer}
+use Rattle.ig_record.specs.declared.stage.Kind.TheVariants.{Xfer, Count}
 use Rattle.ig_record.specs.declared.stage.Stage.{Stage}
 use Rattle.ig_record.specs.Columns.{paths_of}
-use Rattle.ig_record.specs.Stage.{task_count}
+use Rattle.ig_record.specs.Stage.{cells, task_count}
+use Rattle.ig_meaning.specs.Numbered.{number_with}
 
 -- ---- chunks
 -- the chunk with this number, where its file has this path
@@ -44,9 +47,14 @@ abbrev pub chunk_among : List Place → List ℕ → Option Want
 chunk_among [] path = None
 chunk_among (place ∷ places) path = or_else (option_map (chunk_want place) (chunk_with place path)) (chunk_among places path)
 
+-- the file of the counts of a cell: how many voxels of it have each label
+abbrev pub count_want : Stage → ℕ → Want
+count_want s t = record { box = cell (cells s) t; text = λ labels. Some (counts_text (counts_of labels)) }
+
 -- what is wanted at a path; nothing of a removal, and of the kinds that are not listed
 abbrev pub wants_by : Kind → Stage → List ℕ → Option Want
 wants_by Xfer s path = chunk_among s.dests path
+wants_by Count s path = option_map (count_want s) (number_with s.scratch (codes "parts") (codes ".counts") (cell_count (cells s)) path)
 wants_by kind s path = None
 
 -- what earlier passes want at a path of a file that they make for the stage; the kinds that are not listed build on none

@@ -7,49 +7,47 @@ use Rattle.ig_space.specs.Cells.{IsIn-is_in, point_at-place}
 use Rattle.ig_space.specs.Chunk.{chunk_path}
 use Rattle.ig_space.specs.Chunks.{chunk_in, chunks_in, listed}
 use Rattle.ig_space.specs.Geometry.{count}
-use Rattle.ig_space.specs.Grid.{cell, cell_count, chunks_of, hull, is_in, point_at, size_of}
+use Rattle.ig_space.specs.Grid.{cell, cell_count, chunks_of, hull, is_in, point_at, size_of, space_of}
+use Rattle.ig_count.specs.CountsFile.{counts_text}
+use Rattle.ig_count.specs.Tables.{counts_of}
 use Rattle.ig_defs.specs.Own.{File}
 use Rattle.ig_layer.specs.AllListed.{all_listed-agrees}
 use Rattle.ig_layer.specs.Faults.{Fault, first_fault, or_else}
 use Rattle.ig_layer.specs.Layer.{Labels, Reading, volume_at}
 use Rattle.ig_layer.specs.Texts.{all_listed, chunk_file, chunk_text, file_if, files_in, label_by_number, labels_in, text_of, with_last}
 use Rattle.ig_record.specs.declared.stage.Kind.{Kind}
-use Rattle.ig_record.specs.declared.stage.Kind.TheVariants.{Xfer, Remove}
+use Rattle.ig_record.specs.declared.stage.Kind.TheVariants.{Xfer, Count, Remove}
 use Rattle.ig_record.specs.declared.stage.Stage.{Stage}
 use Rattle.ig_record.specs.Sound.{has_come, is_sound}
 use Rattle.ig_record.specs.SoundKinds.{IsCopyOf}
-use Rattle.ig_record.specs.SoundRows.{IsSoundKind, is_xfer, is_remove}
-use Rattle.ig_record.specs.SoundStages.{IsSound-from, sound-come, sound-kind}
-use Rattle.ig_record.specs.Columns.{box_read, inputs_by, inputs_of, paths_of as owned_paths}
-use Rattle.ig_record.specs.Stage.{task_box, task_count}
+use Rattle.ig_record.specs.SoundStages.{IsSound-from, sound-come}
+use Rattle.ig_record.specs.Columns.{box_read, inputs_of, numbered, paths_of as owned_paths}
+use Rattle.ig_record.specs.Stage.{cells, task_box, task_count, task_size}
 use Rattle.ig_meaning.specs.ChunkPlaces.{chunk_with-is}
 use Rattle.ig_meaning.specs.Refusal as refusal
 use Rattle.ig_meaning.specs.Refusal.{Refusal, refusal_of}
 use Rattle.ig_meaning.specs.Sequential.{outputs_at-append}
 use Rattle.ig_meaning.specs.Task.{absent_in, first_absent, first_damaged, labels_given, labels_within, makes_by, refusal_by, task_outputs, task_refusal, texts_given, unless}
-use Rattle.ig_meaning.specs.Wants.{Want, chunk_want, output_by, outputs_at, put_at, removal_of, text_by, wants_by, with_first}
+use Rattle.ig_meaning.specs.Wants.{Want, chunk_want, count_want, output_by, outputs_at, put_at, removal_of, text_by, wants_by, with_first}
 use Rattle.ig_cutout.specs.declared.types.Input.{Input}
 use Rattle.ig_cutout.specs.declared.types.Output.{Output}
 use Rattle.ig_cutout.specs.declared.error.CutError.{CutError}
 use Rattle.ig_cutout.specs.declared.error.CutError.TheVariants as cut
 use Rattle.ig_cutout.specs.Inputs.{HoldsAll, Says, paths_of}
 use Rattle.ig_cutout.specs.Outputs.{output_of}
-use Rattle.ig_task.specs.Answers.{RefusesTask, missing_path, run_error_of}
+use Rattle.ig_task.specs.Answers.{AreMadeOf, RefusesTask, missing_path, run_error_of}
+use Rattle.ig_task.specs.Copies.{copy-of}
+use Rattle.ig_task.specs.Counts.{count-numbered, count-of}
+use Rattle.ig_task.specs.KindFacts.{MakesFiles}
+use Rattle.ig_task.specs.NumberedStages.{IsNumbered, numbered-made}
 use Rattle.ig_task.specs.OwnWants.{copy-wants, removal-wants}
 use Rattle.ig_task.specs.OwnedPaths.{Owns, copy-owns}
 use Rattle.ig_task.specs.Tiles.{part-chunk}
 
--- ---- a sound stage is a copy or a removal
-copy_by : (s : Stage) → s.kind ≡ Xfer → IsSoundKind s → IsCopyOf s.source s.dests s.info
-copy_by s copies (is_xfer kind scratch copy) = copy
-copy_by s copies (is_remove kind scratch removal) = let no_way : Xfer ≡ Remove = sym copies ∙ kind in absurd cc
-
-pub copy_of : (s : Stage) → is_sound s ≡ true → s.kind ≡ Xfer → IsCopyOf s.source s.dests s.info
-copy_of s sound copies = copy_by s copies (sound-kind s sound)
-
+-- ---- a sound stage
 -- a copy to this scale
-pub dest_of : (s : Stage) (sound : is_sound s ≡ true) (copies : s.kind ≡ Xfer) (dest : Place) → s.dests ≡ dest ∷ [] → (copy_of s sound copies).dest ≡ dest
-dest_of s sound copies dest one = cc ((copy_of s sound copies).dests_are, one)
+pub dest_of : (s : Stage) (sound : is_sound s ≡ true) (copies : s.kind ≡ Xfer) (dest : Place) → s.dests ≡ dest ∷ [] → (copy-of s sound copies).dest ≡ dest
+dest_of s sound copies dest one = cc ((copy-of s sound copies).dests_are, one)
 
 -- of other kinds no stage is sound
 pub not_come : (s : Stage) → is_sound s ≡ true → has_come s.kind ≡ false → ⊥
@@ -85,27 +83,27 @@ module _ (s : Stage) (k : ℕ) (files : Reading) (inputs : List Input) (holds : 
   refused-found e =
       ap (λ first. or_else first (or_else (first_damaged s (box_read s.kind s k) files) (refusal_by s.kind s k (texts_given s k files)))) (absent_of None e)
 
--- ---- copies
+-- ---- a task that makes files
 or_none : {A : Type 0} (o : Option A) → or_else o None ≡ o
 or_none None = refl
 or_none (Some x) = refl
 
-pub copy-fault : (s : Stage) → s.kind ≡ Xfer → (k : ℕ) (files : Reading) (inputs : List Input) → HoldsAll files inputs → paths_of inputs ≡ inputs_of s k → missing_path inputs ≡ None
+pub files-fault : (s : Stage) → MakesFiles s → (k : ℕ) (files : Reading) (inputs : List Input) → HoldsAll files inputs → paths_of inputs ≡ inputs_of s k → missing_path inputs ≡ None
     → task_refusal s k files ≡ option_map refusal_of (first_fault s.source (task_box s k) files)
-copy-fault s copies k files inputs holds paths found =
+files-fault s m k files inputs holds paths found =
     refused-found s k files inputs holds paths found
     ∙ or_none (first_damaged s (box_read s.kind s k) files)
-    ∙ ap (λ (kind : Kind). first_damaged s (box_read kind s k) files) copies
+    ∙ ap (λ (box : Option Box3). first_damaged s box files) (m.reads k)
 
 says_refuses : (e : CutError) (fault : Option Fault) → Says e fault → RefusesTask (run_error_of e) (option_map refusal_of fault)
 says_refuses (cut.Missing path) fault says = ap (option_map refusal_of) says
 says_refuses (cut.Malformed path cause) fault says = ap (option_map refusal_of) says
 says_refuses cut.Memory fault says = tt
 
-pub refused-cut : (s : Stage) → s.kind ≡ Xfer → (k : ℕ) (files : Reading) (inputs : List Input) (e : CutError) → HoldsAll files inputs → paths_of inputs ≡ inputs_of s k → missing_path inputs ≡ None
+pub refused-cut : (s : Stage) → MakesFiles s → (k : ℕ) (files : Reading) (inputs : List Input) (e : CutError) → HoldsAll files inputs → paths_of inputs ≡ inputs_of s k → missing_path inputs ≡ None
     → Says e (first_fault s.source (task_box s k) files) → RefusesTask (run_error_of e) (task_refusal s k files)
-refused-cut s copies k files inputs e holds paths found says =
-    subst (RefusesTask (run_error_of e)) (sym (copy-fault s copies k files inputs holds paths found)) (says_refuses e (first_fault s.source (task_box s k) files) says)
+refused-cut s m k files inputs e holds paths found says =
+    subst (RefusesTask (run_error_of e)) (sym (files-fault s m k files inputs holds paths found)) (says_refuses e (first_fault s.source (task_box s k) files) says)
 
 -- the labels of a box are those within it
 label-within : (volume : Labels) (box : Box3) (k : ℕ) → k < count (size_of box) → label_by_number (labels_within (Some box) volume) box k ≡ label_by_number volume box k
@@ -119,6 +117,18 @@ label-within volume box k below =
 pub labels_in-within : (volume : Labels) (box : Box3) → labels_in (labels_within (Some box) volume) box ≡ labels_in volume box
 labels_in-within volume box = all_listed-agrees (label_by_number (labels_within (Some box) volume) box) (label_by_number volume box) (count (size_of box)) (label-within volume box)
 
+-- it makes what is made of the labels of its box
+pub files-makes : (s : Stage) → MakesFiles s → (k : ℕ) (files : Reading) (inputs : List Input) (labels : List ℕ) (outputs : List Output) → HoldsAll files inputs → paths_of inputs ≡ inputs_of s k
+    → missing_path inputs ≡ None → first_fault s.source (task_box s k) files ≡ None → labels_in (volume_at files s.source) (task_box s k) ≡ Some labels → AreMadeOf s k labels outputs → task_outputs s k files ≡ Some outputs
+files-makes s m k files inputs labels outputs holds paths found fine are made =
+    let volume = volume_at files s.source in
+    let box = task_box s k in
+    let given : labels_given s k files ≡ labels_within (Some box) volume = ap (λ (box : Option Box3). labels_within box volume) (m.reads k) in
+    let outs : makes_by s.kind s k (labels_given s k files) (texts_given s k files) ≡ Some outputs
+    = ap (λ l. outputs_at s l (owned_paths s k)) given ∙ made (labels_within (Some box) volume) (labels_in-within volume box ∙ are) in
+    ap (λ r. unless r (makes_by s.kind s k (labels_given s k files) (texts_given s k files))) (files-fault s m k files inputs holds paths found ∙ ap (option_map refusal_of) fine) ∙ outs
+
+-- ---- copies
 -- the chunks that are cut are what is wanted of the labels
 text_then : (place : Place) (box : Box3) (o : Option (List ℕ)) → option_and_then (chunk_want place box).text o ≡ text_of place.geometry.encoding place.geometry.width (size_of box) o
 text_then place box None = refl
@@ -130,7 +140,7 @@ file_then path (Some text) file e = ap (λ f. Some (output_of f)) (same_Some _ f
 
 module _ (s : Stage) (sound : is_sound s ≡ true) (copies : s.kind ≡ Xfer) (k : ℕ) (below : k < task_count s) (labels : Labels) where
   abbrev copy : IsCopyOf s.source s.dests s.info
-  copy = copy_of s sound copies
+  copy = copy-of s sound copies
 
   owns : Owns s copy.dest
   owns = copy-owns s (IsSound-from s sound) copies copy
@@ -185,15 +195,27 @@ module _ (s : Stage) (sound : is_sound s ≡ true) (copies : s.kind ≡ Xfer) (k
       let m = mapped_some (files_in copy.dest labels (task_box s k)) outputs e in
       ap (outputs_at s labels) (owns.paths k) ∙ cut_chunks (cell_count (hull (chunks_of copy.dest.geometry) (task_box s k))) (omega arith) m.0 m.1 ∙ ap Some m.2
 
-pub copy-makes_outputs : (s : Stage) (sound : is_sound s ≡ true) (copies : s.kind ≡ Xfer) (k : ℕ) → k < task_count s → (dest : Place) → s.dests ≡ dest ∷ [] → (files : Reading) (inputs : List Input) (outputs : List Output)
-    → HoldsAll files inputs → paths_of inputs ≡ inputs_of s k → missing_path inputs ≡ None → first_fault s.source (task_box s k) files ≡ None
-    → option_map (map output_of) (files_in dest (labels_within (Some (task_box s k)) (volume_at files s.source)) (task_box s k)) ≡ Some outputs → task_outputs s k files ≡ Some outputs
-copy-makes_outputs s sound copies k below dest one files inputs outputs holds paths found fine cut =
-    let given : labels_given s k files ≡ labels_within (Some (task_box s k)) (volume_at files s.source) = ap (λ (kind : Kind). labels_within (box_read kind s k) (volume_at files s.source)) copies in
-    let made = subst (λ d. option_map (map output_of) (files_in d (labels_within (Some (task_box s k)) (volume_at files s.source)) (task_box s k)) ≡ Some outputs) (sym (dest_of s sound copies dest one)) cut in
-    let outs : makes_by s.kind s k (labels_given s k files) (texts_given s k files) ≡ Some outputs
-    = ap (λ l. outputs_at s l (owned_paths s k)) given ∙ cut_outputs s sound copies k below (labels_within (Some (task_box s k)) (volume_at files s.source)) outputs made in
-    ap (λ r. unless r (makes_by s.kind s k (labels_given s k files) (texts_given s k files))) (copy-fault s copies k files inputs holds paths found ∙ ap (option_map refusal_of) fine) ∙ outs
+-- to the scale that the copy writes
+pub copy-made : (s : Stage) → is_sound s ≡ true → s.kind ≡ Xfer → (k : ℕ) → k < task_count s → (dest : Place) → s.dests ≡ dest ∷ [] → (volume : Labels) (outputs : List Output)
+    → option_map (map output_of) (files_in dest volume (task_box s k)) ≡ Some outputs → outputs_at s volume (owned_paths s k) ≡ Some outputs
+copy-made s sound copies k below dest one volume outputs cut =
+    cut_outputs s sound copies k below volume outputs
+    (subst (λ d. option_map (map output_of) (files_in d volume (task_box s k)) ≡ Some outputs) (sym (dest_of s sound copies dest one)) cut)
+
+-- ---- counts
+-- the only file of a task
+pub count-file : (s : Stage) → is_sound s ≡ true → s.kind ≡ Count → IsNumbered s
+count-file s sound counts = count-numbered s (IsSound-from s sound) counts (count-of s sound counts)
+
+pub count-made : (s : Stage) → is_sound s ≡ true → s.kind ≡ Count → (k : ℕ) → k < task_count s → (path text : List ℕ) (labels : List ℕ) → owned_paths s k ≡ path ∷ [] → text ≡ counts_text (counts_of labels)
+    → AreMadeOf s k labels (put_at path text ∷ [])
+count-made s sound counts k below path text labels own is volume are =
+    let h = IsSound-from s sound in
+    let n = count-file s sound counts in
+    let box : cell (cells s) k ≡ task_box s k = ap (λ step. cell (record { space = space_of s.source.geometry; step = step }) k) (sym (ap (λ (kind : Kind). task_size kind s) counts)) in
+    let wanted : text_by volume (Some (count_want s k)) ≡ Some text = ap (option_and_then (count_want s k).text) (ap (labels_in volume) box ∙ are) ∙ ap Some (sym is) in
+    let same : numbered n.dir n.ending k ≡ path = cc (n.file k, own) in
+    subst (λ p. outputs_at s volume (owned_paths s k) ≡ Some (put_at p text ∷ [])) same (numbered-made s h n k below volume text wanted)
 
 -- ---- removals
 removed_at : (s : Stage) → s.kind ≡ Remove → (labels : Labels) (paths : List (List ℕ)) → outputs_at s labels paths ≡ Some (map removal_of paths)

@@ -1,8 +1,15 @@
 -- What the answers of a run say.
 use Rattle.std.specs.Prelude.{◌≡◌, if◌then◌else◌, List, [], ◌∷◌, ℕ, Option, None, Some, is_none}
+use Rattle.ig_layer.specs.Layer.{Labels}
+use Rattle.ig_layer.specs.Texts.{labels_in}
+use Rattle.ig_record.specs.declared.stage.Stage.{Stage}
+use Rattle.ig_record.specs.Columns.{paths_of}
+use Rattle.ig_record.specs.Stage.{task_box}
 use Rattle.ig_meaning.specs.Refusal as meaning
 use Rattle.ig_meaning.specs.Refusal.{Refusal}
+use Rattle.ig_meaning.specs.Wants.{outputs_at}
 use Rattle.ig_cutout.specs.declared.types.Input.{Input}
+use Rattle.ig_cutout.specs.declared.types.Output.{Output}
 use Rattle.ig_cutout.specs.declared.error.CutError.{CutError}
 use Rattle.ig_cutout.specs.declared.error.CutError.TheVariants as cut
 use Rattle.ig_cutout.specs.Inputs.{cause_of}
@@ -26,3 +33,7 @@ RefusesTask (Missing path) r = r ≡ Some (meaning.Missing path)
 RefusesTask (Malformed path cause) r = r ≡ Some (meaning.Malformed path (cause_of cause))
 RefusesTask (TooManyParts count) r = r ≡ Some (meaning.TooManyParts count)
 RefusesTask Memory r = Unit {0}
+
+-- Of each volume whose labels in the box of the task are these, the outputs are what is to stand at the task's paths.
+abbrev pub AreMadeOf : Stage → ℕ → List ℕ → List Output → Type 0
+AreMadeOf s k labels outputs = (volume : Labels) → labels_in volume (task_box s k) ≡ Some labels → outputs_at s volume (paths_of s k) ≡ Some outputs

@@ -1,73 +1,63 @@
 -- Each kind of stage keeps what the laws of the rule rest on.
-use Rattle.std.specs.Prelude.{◌≡◌, ◌≢◌, ◌⊎◌, ◌<◌, ℕ, true, List, [], ◌∷◌, length, Option, None, Some, option_map, Contains, codes, refl}
-use Rattle.std.proofs.Common.{arith, ap, sym, subst, ◌∙◌, inl, inr, length-append, true≢false}
-use Rattle.std.proofs.lemmas.List.Elements.{Contains-push, Contains-push_cases}
+use Rattle.std.specs.Prelude.{◌≡◌, ◌≢◌, ℕ, true, List, Option, None, Some, option_map, is_some, refl}
+use Rattle.std.proofs.Common.{ap, sym, subst, ◌∙◌, true≢false}
 use Rattle.std.proofs.lemmas.Option.{none-some, same_Some}
-use Rattle.ig_space.specs.Path.{joined}
 use Rattle.ig_defs.specs.Own.{File}
-use Rattle.ig_record.specs.declared.stage.Kind.TheVariants.{Xfer, Remove}
+use Rattle.ig_record.specs.declared.stage.Kind.TheVariants.{Remove}
 use Rattle.ig_record.specs.declared.stage.Stage.{Stage}
 use Rattle.ig_record.specs.Reading.{record_in}
 use Rattle.ig_record.specs.ReadingLaws.{record_in-IsRecord}
 use Rattle.ig_record.specs.Sound.{is_sound}
 use Rattle.ig_record.specs.SoundStages.{IsSound, IsSound-from, sound-kind}
-use Rattle.ig_record.specs.SoundKinds.{IsCopyOf, IsRemoval}
-use Rattle.ig_record.specs.SoundRows.{IsSoundKind, is_remove, is_xfer}
-use Rattle.ig_record.specs.Columns.{output_dirs}
+use Rattle.ig_record.specs.SoundKinds.{IsRemoval}
+use Rattle.ig_record.specs.SoundRows.{IsSoundKind, is_count, is_remove, is_xfer}
 use Rattle.ig_meaning.specs.ChunkPlaces.{chunk-lies, chunk-not_info, is_chunk_of-from, is_chunk_of-is}
 use Rattle.ig_meaning.specs.Jobs.{file_of}
 use Rattle.ig_meaning.specs.Lasting.{wanted-lasts}
-use Rattle.ig_rule.specs.DirPaths.{dir_of-segment, dir_within}
-use Rattle.ig_rule.specs.Facts.{Facts, KindLaws, LiesInOne, Pass, StageLaws}
+use Rattle.ig_rule.specs.Facts.{Facts, KindLaws, Pass, StageLaws}
+use Rattle.ig_task.specs.Copies.{copy-makes_files}
+use Rattle.ig_task.specs.Counts.{count-makes_files}
 use Rattle.ig_task.specs.Facts.{facts_of, stage_reader}
-use Rattle.ig_task.specs.OwnedPaths.{chunk-path, copy-makes, copy-outputs, copy-owns, one-task, path-chunk, removal-owns, removal-removes}
-use Rattle.ig_task.specs.OwnWants.{copy-chunk, removal-wants_none}
+use Rattle.ig_task.specs.KindFacts.{KindFacts, MakesFiles, makes_files, path-of, removes}
+use Rattle.ig_task.specs.OwnedPaths.{one-task, path-chunk, removal-owns, removal-removes}
+use Rattle.ig_task.specs.OwnWants.{removal-wants_none}
 
--- ---- the info of a copy
-info-is : (s : Stage) (c : IsCopyOf s.source s.dests s.info) (info : File) → option_map file_of s.info ≡ Some info → info.path ≡ joined c.layer (codes "info")
-info-is s c info e =
-    let same : file_of c.put ≡ info = same_Some (file_of c.put) info (ap (option_map file_of) (sym c.info_is) ∙ e) in
-    ap (λ (file : File). file.path) (sym same) ∙ c.path_is
+-- ---- kind by kind
+facts_by : (s : Stage) → IsSound s → IsSoundKind s → KindFacts s
+facts_by s h (is_xfer is none c) = makes_files (copy-makes_files s h is c)
+facts_by s h (is_count is scratch at r) = makes_files (count-makes_files s h is (record { scratch = scratch; at = at; alone = r }))
+facts_by s h (is_remove is none r) = removes is r
 
-longer : (layer key : List ℕ) → joined layer key ≢ layer
-longer layer key e = let long : length (joined layer key) ≡ length layer = ap (λ (text : List ℕ). length text) e in absurd (omega (arith, long, length-append layer (47 ∷ key)))
+-- What a sound stage owes by its kind.
+pub kind-facts : (s : Stage) → is_sound s ≡ true → KindFacts s
+kind-facts s sound = facts_by s (IsSound-from s sound) (sound-kind s sound)
 
--- it lies in the layer, and its scale in a directory of that
-info-apart : (s : Stage) → s.kind ≡ Xfer → (c : IsCopyOf s.source s.dests s.info) (info : File) → option_map file_of s.info ≡ Some info → LiesInOne (output_dirs s) info.path → ⊥
-info-apart s is c info e within =
-    let one : Contains (c.dest.dir ∷ []) within.dir = subst (λ dirs. Contains dirs within.dir) (copy-outputs s is c) within.one in
-    let of_layer : within.dir ≡ c.layer = dir_within within.dir c.layer (codes "info") info.path within.lies (dir_of-segment (codes "info") refl) (info-is s c info e) in
-    only (Contains-push_cases [] c.dest.dir within.dir one) of_layer
-  where
-    only : Contains [] within.dir ⊎ (c.dest.dir ≡ within.dir) → within.dir ≡ c.layer → ⊥
-    only (inl h) of_layer = absurd (omega (arith, h.1))
-    only (inr same) of_layer = longer c.layer c.key (sym c.dir_is ∙ same ∙ of_layer)
+files_by : (s : Stage) → s.kind ≢ Remove → KindFacts s → MakesFiles s
+files_by s other (makes_files m) = m
+files_by s other (removes is r) = absurd (other is)
 
--- ---- the laws, kind by kind
-copy-laws : (n : ℕ) (s : Stage) → IsSound s → s.kind ≡ Xfer → IsCopyOf s.source s.dests s.info → StageLaws (facts_of n s)
-copy-laws n s h is c =
-    let dest = c.dest in
-    let owns = copy-owns s h is c in
-    record {
-      wanted_stays = λ old new path bytes keeps. wanted-lasts s h.fits old new path bytes keeps.kept;
-      wanted_at = λ files path bytes e. chunk-path s dest owns n path (copy-chunk s is c files path bytes e);
-      path_in = λ makes path u. record {
-        dir = dest.dir;
-        one = subst (λ dirs. Contains dirs dest.dir) (sym (copy-outputs s is c)) (Contains-push [] dest.dir);
-        lies = chunk-lies dest c.is_dest.fits c.is_dest.dir path (path-chunk s dest owns n path u);
-      };
-      removed_chunk = λ removes path u. absurd (true≢false (sym removes ∙ copy-makes s is));
-      one_task = one-task s dest owns;
-      chunk_in = λ path e. chunk-lies s.source h.fits h.layers.dir path (is_chunk_of-from s.source path e);
-      chunk_name = λ path e. chunk-not_info s.source h.fits h.layers.dir path (is_chunk_of-from s.source path e);
-      info_name = λ info e. record { dir = c.layer; is = info-is s c info e };
-      info_apart = info-apart s is c;
-      scratch_stays = λ old new path bytes keeps e. absurd (none-some bytes e);
-      scratch_at = λ files path bytes e. absurd (none-some bytes e);
-      scratch_apart = λ path e. absurd (true≢false (sym e));
-      no_scratch = λ none path e. true≢false (sym e);
-      few_tasks = h.few;
-    }
+-- Each but a removal makes files.
+pub files-of : (s : Stage) → is_sound s ≡ true → s.kind ≢ Remove → MakesFiles s
+files-of s sound other = files_by s other (kind-facts s sound)
+
+-- ---- the laws
+files-laws : (n : ℕ) (s : Stage) → IsSound s → MakesFiles s → StageLaws (facts_of n s)
+files-laws n s h m = record {
+  wanted_stays = λ old new path bytes keeps. wanted-lasts s h.fits old new path bytes keeps.kept;
+  wanted_at = λ files path bytes e. path-of 0 n s path (m.wanted_at files path bytes e);
+  path_in = λ makes path u. m.path_in path (path-of n 0 s path u);
+  removed_chunk = λ takes path u. absurd (true≢false (sym takes ∙ ap (λ (dir : Option (List ℕ)). is_some dir) m.keeps));
+  one_task = m.one_task;
+  chunk_in = λ path e. chunk-lies s.source h.fits h.layers.dir path (is_chunk_of-from s.source path e);
+  chunk_name = λ path e. chunk-not_info s.source h.fits h.layers.dir path (is_chunk_of-from s.source path e);
+  info_name = m.info_name;
+  info_apart = m.info_apart;
+  scratch_stays = λ old new path bytes keeps e. absurd (none-some bytes e);
+  scratch_at = λ files path bytes e. absurd (none-some bytes e);
+  scratch_apart = λ path e. absurd (true≢false (sym e));
+  no_scratch = λ none path e. true≢false (sym e);
+  few_tasks = h.few;
+}
 
 no_info : (s : Stage) → IsRemoval s.dests s.info → (info : File) → option_map file_of s.info ≡ Some info → ⊥
 no_info s r info e = none-some info (ap (option_map file_of) (sym r.no_info) ∙ e)
@@ -79,7 +69,7 @@ removal-laws n s h is r =
       wanted_stays = λ old new path bytes keeps. wanted-lasts s h.fits old new path bytes keeps.kept;
       wanted_at = λ files path bytes e. absurd (removal-wants_none s is files path bytes e);
       path_in = λ makes path u. absurd (true≢false (sym (removal-removes s is) ∙ makes));
-      removed_chunk = λ removes path u. is_chunk_of-is s.source h.fits path (path-chunk s s.source owns n path u);
+      removed_chunk = λ takes path u. is_chunk_of-is s.source h.fits path (path-chunk s s.source owns n path u);
       one_task = one-task s s.source owns;
       chunk_in = λ path e. chunk-lies s.source h.fits h.layers.dir path (is_chunk_of-from s.source path e);
       chunk_name = λ path e. chunk-not_info s.source h.fits h.layers.dir path (is_chunk_of-from s.source path e);
@@ -92,13 +82,13 @@ removal-laws n s h is r =
       few_tasks = h.few;
     }
 
-laws-by : (n : ℕ) (s : Stage) → IsSound s → IsSoundKind s → StageLaws (facts_of n s)
-laws-by n s h (is_xfer is none c) = copy-laws n s h is c
-laws-by n s h (is_remove is none r) = removal-laws n s h is r
+laws_by : (n : ℕ) (s : Stage) → IsSound s → KindFacts s → StageLaws (facts_of n s)
+laws_by n s h (makes_files m) = files-laws n s h m
+laws_by n s h (removes is r) = removal-laws n s h is r
 
 -- What a sound stage keeps.
 pub stage-laws : (n : ℕ) (s : Stage) → is_sound s ≡ true → StageLaws (facts_of n s)
-stage-laws n s sound = laws-by n s (IsSound-from s sound) (sound-kind s sound)
+stage-laws n s sound = laws_by n s (IsSound-from s sound) (kind-facts s sound)
 
 -- ---- of records
 -- the facts are those of a sound stage

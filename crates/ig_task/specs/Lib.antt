@@ -10,6 +10,11 @@ pub mod MakerLaws
 pub mod Rooms
 pub mod NewRecords
 pub mod OwnWants
+pub mod KindFacts
+pub mod Copies
+pub mod NumberedFiles
+pub mod NumberedStages
+pub mod Counts
 pub mod MadeOutputs
 pub mod Runs
 pub mod OwnInputs

@@ -1,5 +1,5 @@
 -- What a task makes is what is wanted: one lemma for every kind.
-use Rattle.std.specs.Prelude.{◌≡◌, ◌<◌, ℕ, zero, suc, true, false, List, [], ◌∷◌, length, Option, None, Some, is_some, Contains, All, map, option_map, refl}
+use Rattle.std.specs.Prelude.{◌≡◌, ◌<◌, ℕ, zero, suc, true, false, List, [], ◌∷◌, length, Option, None, Some, is_some, Contains, All, option_map, refl}
 use Rattle.std.proofs.Common.{arith, ap, sym, subst, ◌∙◌, true≢false}
 use Rattle.std.proofs.lemmas.Option.{none-some, same_Some}
 use Rattle.ig_layer.specs.Layer.{Labels, Reading, volume_at}
@@ -8,15 +8,16 @@ use Rattle.ig_record.specs.declared.stage.Kind.{Kind}
 use Rattle.ig_record.specs.declared.stage.Stage.{Stage}
 use Rattle.ig_record.specs.Columns.{paths_of, removed_dir, scratch_read}
 use Rattle.ig_record.specs.Sound.{is_sound}
-use Rattle.ig_record.specs.SoundRows.{IsSoundKind, is_remove, is_xfer}
-use Rattle.ig_record.specs.SoundStages.{IsSound-from, sound-kind}
 use Rattle.ig_record.specs.Stage.{task_count}
 use Rattle.ig_meaning.specs.Agreeing.{further, here}
 use Rattle.ig_meaning.specs.Sequential.{HasScratch, first-from, outputs_at-paths, task-wanted}
 use Rattle.ig_meaning.specs.Task.{task_outputs}
 use Rattle.ig_meaning.specs.Wants.{Want, output_by, outputs_at, put_at, removal_of, text_by, wants_by}
 use Rattle.ig_task.specs.Facts.{given_to}
-use Rattle.ig_task.specs.OwnWants.{own-none, own-wants}
+use Rattle.ig_task.specs.KindFacts.{KindFacts, makes_files, removes}
+use Rattle.ig_task.specs.Kinds.{kind-facts}
+use Rattle.ig_task.specs.OwnedPaths.{removal-removes}
+use Rattle.ig_task.specs.OwnWants.{removal-wants}
 use Rattle.ig_task.specs.Wanted.{AreWanted, HasWantedText}
 
 -- ---- lists
@@ -54,23 +55,37 @@ none_wanted s volume (path ∷ paths) outputs e none =
     subst (All (λ (output : Output). output.text ≡ None)) f.are
     (all_of (λ (output : Output). output.text ≡ None) f.head f.tail (ap (λ (output : Output). output.text) (sym gone)) (none_wanted s volume paths f.tail f.rest_is none))
 
+-- ---- by the kind
+-- something is wanted at each path of a stage that makes files
+own_wants : (s : Stage) → KindFacts s → is_some (removed_dir s) ≡ false → (k : ℕ) → k < task_count s → (path : List ℕ) → Contains (paths_of s k) path → is_some (wants_by s.kind s path) ≡ true
+own_wants s (makes_files m) makes = m.wants
+own_wants s (removes is r) makes = absurd (true≢false (sym (removal-removes s is) ∙ makes))
+
+-- and nothing at those of a removal
+own_none : (s : Stage) → KindFacts s → is_some (removed_dir s) ≡ true → (path : List ℕ) → wants_by s.kind s path ≡ None
+own_none s (makes_files m) takes path = absurd (true≢false (sym takes ∙ ap (λ (dir : Option (List ℕ)). is_some dir) m.keeps))
+own_none s (removes is r) takes path = removal-wants s is path
+
+-- no kind that has come builds on earlier passes
+scratch_by : (s : Stage) → KindFacts s → (k : ℕ) → scratch_read s.kind s k ≡ []
+scratch_by s (makes_files m) k = m.no_scratch k
+scratch_by s (removes is r) k = ap (λ (kind : Kind). scratch_read kind s k) is
+
+pub no_scratch : (s : Stage) → is_sound s ≡ true → (k : ℕ) → scratch_read s.kind s k ≡ []
+no_scratch s sound = scratch_by s (kind-facts s sound)
+
 -- ---- outputs
 -- What is to stand at the paths of a task are wanted outputs.
 pub are-wanted : (s : Stage) → is_sound s ≡ true → (k : ℕ) → k < task_count s → (files : Reading) (outputs : List Output) → outputs_at s (volume_at files s.source) (paths_of s k) ≡ Some outputs → AreWanted s k files outputs
 are-wanted s sound k below files outputs e = record {
   paths = outputs_at-paths s (volume_at files s.source) (paths_of s k) outputs e;
-  made = λ makes. texts_wanted s files (paths_of s k) outputs e (own-wants s (IsSound-from s sound) (sound-kind s sound) makes k below);
-  gone = λ removes. none_wanted s (volume_at files s.source) (paths_of s k) outputs e (own-none s (sound-kind s sound) removes);
+  made = λ makes. texts_wanted s files (paths_of s k) outputs e (own_wants s (kind-facts s sound) makes k below);
+  gone = λ takes. none_wanted s (volume_at files s.source) (paths_of s k) outputs e (own_none s (kind-facts s sound) takes);
 }
-
--- no kind that has come builds on earlier passes
-pub no_scratch : (s : Stage) → IsSoundKind s → (k : ℕ) → scratch_read s.kind s k ≡ []
-no_scratch s (is_xfer is none c) k = ap (λ (kind : Kind). scratch_read kind s k) is
-no_scratch s (is_remove is none r) k = ap (λ (kind : Kind). scratch_read kind s k) is
 
 -- The texts of earlier passes that a task is to be given are those that these want.
 pub given-scratch : (s : Stage) → is_sound s ≡ true → (k : ℕ) (given : Reading) → HasScratch s k given
-given-scratch s sound k given path among = let none = ap length (no_scratch s (sound-kind s sound) k) in absurd (omega (arith, among.1, none))
+given-scratch s sound k given path among = let none = ap length (no_scratch s sound k) in absurd (omega (arith, among.1, none))
 
 -- What a task of a sound stage makes of what it is to be given is what the stage wants.
 pub outputs-are_wanted : (s : Stage) → is_sound s ≡ true → (k : ℕ) → k < task_count s → (files : Reading) (outputs : List Output) → task_outputs s k (given_to s files) ≡ Some outputs → AreWanted s k files outputs

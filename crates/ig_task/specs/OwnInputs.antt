@@ -1,5 +1,5 @@
 -- The inputs of a stage's tasks, kind by kind: they are chunks of its source, and no task makes one of another.
-use Rattle.std.specs.Prelude.{◌≡◌, ◌≢◌, ◌<◌, ℕ, true, false, List, [], length, Option, Some, is_some, Contains, option_map, refl}
+use Rattle.std.specs.Prelude.{◌≡◌, ◌≢◌, ◌<◌, ℕ, true, false, List, [], ◌++◌, length, Option, Some, is_some, Contains, option_map, refl}
 use Rattle.std.proofs.Common.{arith, ap, sym, subst, ◌∙◌, true≢false, append-nil}
 use Rattle.std.proofs.lemmas.List.Elements.{Contains-append_left}
 use Rattle.ig_space.specs.declared.point.Box3.{Box3}
@@ -14,8 +14,7 @@ use Rattle.ig_record.specs.declared.stage.Kind.{Kind}
 use Rattle.ig_record.specs.declared.stage.Stage.{Stage}
 use Rattle.ig_record.specs.Columns.{box_read, chunks_met, inputs_by, inputs_of, output_dirs, paths_of, removed_dir, scratch_read}
 use Rattle.ig_record.specs.Sound.{is_sound}
-use Rattle.ig_record.specs.SoundRows.{IsSoundKind, is_remove, is_xfer}
-use Rattle.ig_record.specs.SoundStages.{IsSound, IsSound-from, sound-kind, tasks-IsGrid}
+use Rattle.ig_record.specs.SoundStages.{IsSound, IsSound-from, tasks-IsGrid}
 use Rattle.ig_record.specs.Stage.{task_box, task_count, task_grid}
 use Rattle.ig_meaning.specs.Agreeing.{voxel-chunk}
 use Rattle.ig_meaning.specs.ChunkPlaces.{chunk-not_info, is_chunk_of-from, is_chunk_of-is}
@@ -26,8 +25,9 @@ use Rattle.ig_meaning.specs.Wants.{is_chunk_of}
 use Rattle.ig_rule.specs.DirPaths.{dir_is}
 use Rattle.ig_rule.specs.Facts.{StageLaws}
 use Rattle.ig_task.specs.Facts.{facts_of}
-use Rattle.ig_task.specs.Kinds.{stage-laws}
-use Rattle.ig_task.specs.OwnedPaths.{copy-makes, removal-removes}
+use Rattle.ig_task.specs.KindFacts.{KindFacts, MakesFiles, makes_files, removes}
+use Rattle.ig_task.specs.Kinds.{kind-facts, stage-laws}
+use Rattle.ig_task.specs.OwnedPaths.{removal-removes}
 
 -- ---- chunks
 -- an input is a chunk of the source of a stage that makes something
@@ -50,15 +50,22 @@ chunk_met s h k below path among =
 nothing_in : {A : Type 0} (x : A) → Contains [] x → ⊥
 nothing_in x h = absurd (omega (arith, h.1))
 
-input_by : (s : Stage) → IsSound s → IsSoundKind s → (k : ℕ) → k < task_count s → (path : List ℕ) → Contains (inputs_of s k) path → IsInput s path
-input_by s h (is_xfer is none c) k below path among = record {
-  is_chunk = chunk_met s h k below path (subst (λ (paths : List (List ℕ)). Contains paths path) (ap (λ (kind : Kind). inputs_by kind s k) is ∙ append-nil (chunks_in s.source (task_box s k))) among);
-  makes = copy-makes s is;
+-- a task that makes files reads the chunks that meet its box
+pub files-inputs : (s : Stage) → MakesFiles s → (k : ℕ) → inputs_of s k ≡ chunks_in s.source (task_box s k)
+files-inputs s m k =
+    ap (λ (box : Option Box3). chunks_met s.source box ++ scratch_read s.kind s k) (m.reads k)
+    ∙ ap (λ (scratch : List (List ℕ)). chunks_in s.source (task_box s k) ++ scratch) (m.no_scratch k)
+    ∙ append-nil (chunks_in s.source (task_box s k))
+
+input_by : (s : Stage) → IsSound s → KindFacts s → (k : ℕ) → k < task_count s → (path : List ℕ) → Contains (inputs_of s k) path → IsInput s path
+input_by s h (makes_files m) k below path among = record {
+  is_chunk = chunk_met s h k below path (subst (λ (paths : List (List ℕ)). Contains paths path) (files-inputs s m k) among);
+  makes = ap (λ (dir : Option (List ℕ)). is_some dir) m.keeps;
 }
-input_by s h (is_remove is none r) k below path among = absurd (nothing_in path (subst (λ (kind : Kind). Contains (inputs_by kind s k) path) is among))
+input_by s h (removes is r) k below path among = absurd (nothing_in path (subst (λ (kind : Kind). Contains (inputs_by kind s k) path) is among))
 
 pub inputs_are : (s : Stage) → is_sound s ≡ true → (k : ℕ) → k < task_count s → (path : List ℕ) → Contains (inputs_of s k) path → IsInput s path
-inputs_are s sound = input_by s (IsSound-from s sound) (sound-kind s sound)
+inputs_are s sound = input_by s (IsSound-from s sound) (kind-facts s sound)
 
 -- ---- how many
 some_read : (s : Stage) → IsSound s → (k : ℕ) → k < task_count s → box_read s.kind s k ≡ Some (task_box s k) → 0 < length (inputs_of s k)
@@ -70,13 +77,13 @@ some_read s h k below reads =
     let among = Contains-append_left (chunks_met s.source (box_read s.kind s k)) (scratch_read s.kind s k) path (subst (λ (o : Option Box3). Contains (chunks_met s.source o) path) (sym reads) met) in
     omega (arith, among.1)
 
-some_by : (s : Stage) → IsSound s → IsSoundKind s → is_some (removed_dir s) ≡ false → (k : ℕ) → k < task_count s → 0 < length (inputs_of s k)
-some_by s h (is_xfer is none c) makes k below = some_read s h k below (ap (λ (kind : Kind). box_read kind s k) is)
-some_by s h (is_remove is none r) makes k below = absurd (true≢false (sym (removal-removes s is) ∙ makes))
+some_by : (s : Stage) → IsSound s → KindFacts s → is_some (removed_dir s) ≡ false → (k : ℕ) → k < task_count s → 0 < length (inputs_of s k)
+some_by s h (makes_files m) makes k below = some_read s h k below (m.reads k)
+some_by s h (removes is r) makes k below = absurd (true≢false (sym (removal-removes s is) ∙ makes))
 
 -- Each task of a stage that makes files has an input.
 pub inputs-some : (s : Stage) → is_sound s ≡ true → is_some (removed_dir s) ≡ false → (k : ℕ) → k < task_count s → 0 < length (inputs_of s k)
-inputs-some s sound = some_by s (IsSound-from s sound) (sound-kind s sound)
+inputs-some s sound = some_by s (IsSound-from s sound) (kind-facts s sound)
 
 -- ---- elsewhere
 -- A stage that doesn't write in the directory of its source makes no input of its tasks.

@@ -1,6 +1,6 @@
 -- What is wanted at the paths of a stage's tasks, kind by kind.
-use Rattle.std.specs.Prelude.{◌≡◌, ◌<◌, ℕ, true, false, List, [], ◌∷◌, Option, None, Some, is_some, Contains, option_map, refl}
-use Rattle.std.proofs.Common.{ap, sym, ◌∙◌, true≢false}
+use Rattle.std.specs.Prelude.{◌≡◌, ℕ, List, Option, None, Some, option_map, refl}
+use Rattle.std.proofs.Common.{ap, sym, ◌∙◌}
 use Rattle.std.proofs.lemmas.Option.{none-some}
 use Rattle.ig_space.specs.declared.point.Box3.{Box3}
 use Rattle.ig_space.specs.declared.place.Place.{Place}
@@ -9,14 +9,9 @@ use Rattle.ig_layer.specs.Layer.{Labels, Reading, volume_at}
 use Rattle.ig_record.specs.declared.stage.Kind.{Kind}
 use Rattle.ig_record.specs.declared.stage.Kind.TheVariants.{Xfer, Remove}
 use Rattle.ig_record.specs.declared.stage.Stage.{Stage}
-use Rattle.ig_record.specs.Columns.{paths_of, removed_dir}
 use Rattle.ig_record.specs.SoundKinds.{IsCopyOf}
-use Rattle.ig_record.specs.SoundRows.{IsSoundKind, is_remove, is_xfer}
-use Rattle.ig_record.specs.SoundStages.{IsSound}
-use Rattle.ig_record.specs.Stage.{task_count}
-use Rattle.ig_meaning.specs.ChunkPlaces.{IsChunk, chunk_with-from, chunk_with-is}
-use Rattle.ig_meaning.specs.Wants.{Want, chunk_among, chunk_want, chunk_with, text_by, wanted_text, wants_by}
-use Rattle.ig_task.specs.OwnedPaths.{copy-makes, copy-owns, path-chunk, removal-removes}
+use Rattle.ig_meaning.specs.ChunkPlaces.{IsChunk, chunk_with-from}
+use Rattle.ig_meaning.specs.Wants.{chunk_among, chunk_want, chunk_with, text_by, wanted_text, wants_by}
 
 -- ---- copies
 -- of one scale: its chunk
@@ -45,17 +40,3 @@ removal-wants s is path = ap (λ (kind : Kind). wants_by kind s path) is
 
 pub removal-wants_none : (s : Stage) → s.kind ≡ Remove → (files : Reading) (path bytes : List ℕ) → wanted_text s files path ≡ Some bytes → ⊥
 removal-wants_none s is files path bytes e = none-some bytes (sym (ap (text_by (volume_at files s.source)) (removal-wants s is path)) ∙ e)
-
--- ---- of each kind
--- something is wanted at each path of a stage that makes files
-pub own-wants : (s : Stage) → IsSound s → IsSoundKind s → is_some (removed_dir s) ≡ false → (k : ℕ) → k < task_count s → (path : List ℕ) → Contains (paths_of s k) path → is_some (wants_by s.kind s path) ≡ true
-own-wants s h (is_xfer is none c) makes k below path among =
-    let chunk = path-chunk s c.dest (copy-owns s h is c) 0 path (record { task = k; below = below; among = among }) in
-    let there = chunk_with-is c.dest c.is_dest.fits path chunk.box chunk.at in
-    ap (λ (want : Option Want). is_some want) (copy-wants s is c path ∙ ap (option_map (chunk_want c.dest)) there)
-own-wants s h (is_remove is none r) makes k below path among = absurd (true≢false (sym (removal-removes s is) ∙ makes))
-
--- and nothing at those of a removal
-pub own-none : (s : Stage) → IsSoundKind s → is_some (removed_dir s) ≡ true → (path : List ℕ) → wants_by s.kind s path ≡ None
-own-none s (is_xfer is none c) removes path = absurd (true≢false (sym removes ∙ copy-makes s is))
-own-none s (is_remove is none r) removes path = removal-wants s is path

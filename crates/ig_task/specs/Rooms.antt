@@ -2,6 +2,7 @@
 use Rattle.std.specs.Prelude.{◌≡◌, ℕ, Bool, true, false, List, Option, None, Some, Ok, is_some, option_map, slice_get, Contains, codes, refl}
 use Rattle.std.specs.List.{All}
 use Rattle.std.proofs.Common.{ap, sym, subst, true≢false, ◌∙◌}
+use Rattle.std.proofs.lemmas.Option.{none-some}
 use Rattle.std.proofs.lemmas.Option.{get_or_from_slice_get, slice_get_within}
 use Rattle.ig_space.specs.Path.{joined}
 use Rattle.ig_defs.specs.Files.{Files, file_at}
@@ -11,7 +12,7 @@ use Rattle.ig_record.specs.declared.stage.Kind.{Kind}
 use Rattle.ig_record.specs.declared.stage.Kind.TheVariants.{Xfer, Remove}
 use Rattle.ig_record.specs.declared.stage.Stage.{Stage}
 use Rattle.ig_record.specs.Sound.{is_sound}
-use Rattle.ig_record.specs.SoundRows.{IsSoundKind, is_xfer, is_remove}
+use Rattle.ig_record.specs.SoundRows.{IsSoundKind, is_xfer, is_count, is_remove}
 use Rattle.ig_record.specs.SoundStages.{sound-kind}
 use Rattle.ig_record.specs.Columns.{needs_fresh_info, output_dirs, removed_by, removed_dir}
 use Rattle.ig_meaning.specs.Plan.{planned}
@@ -68,6 +69,7 @@ info_name : (s : Stage) (info : InfoFile) → IsSoundKind s → s.info ≡ Some 
 info_name s info (is_xfer copies no_scratch c) is =
     let same : c.put ≡ info = cc in
     record { dir = c.layer; is = ap (λ (i : InfoFile). i.path) (sym same) ∙ c.path_is }
+info_name s info (is_count counts scratch at c) is = absurd (none-some info (sym c.no_info ∙ is))
 info_name s info (is_remove removes no_scratch c) is = absurd (none_some s.info info c.no_info is)
   where
     none_some : (o : Option InfoFile) (i : InfoFile) → o ≡ None → o ≡ Some i → ⊥

@@ -1,6 +1,5 @@
 -- A stage that is written elsewhere, run one task after the other.
-use Rattle.std.specs.Prelude.{◌≡◌, ◌<◌, ℕ, true, false, List, Some, Contains}
-use Rattle.std.proofs.Common.{ap, sym, subst, ◌∙◌, true≢false}
+use Rattle.std.specs.Prelude.{◌≡◌, true, List, Some}
 use Rattle.ig_defs.specs.Files.{Files, file_at}
 use Rattle.ig_cutout.specs.declared.types.Output.{Output}
 use Rattle.ig_record.specs.declared.stage.Stage.{Stage}

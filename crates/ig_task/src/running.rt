@@ -1,21 +1,24 @@
 //! What a task makes of what was found of its inputs. Nothing is read or put here.
-ghost use Rattle.std.specs.Prelude.{◌≡◌, ◌<◌, [], ◌∷◌, IfOk, IfErr, None, Some, map, option_map, true};
+ghost use Rattle.std.specs.Prelude.{◌≡◌, ◌≢◌, ◌<◌, [], ◌∷◌, IfOk, IfErr, None, Some, map, option_map, true};
+ghost use Rattle.ig_space.specs.Grid.{size_of};
+ghost use Rattle.ig_space.specs.Raw.{AllFit};
 ghost use Rattle.ig_layer.specs.Layer.{Reading};
-ghost use Rattle.ig_record.specs.declared.stage.Kind.TheVariants.{Xfer};
+ghost use Rattle.ig_record.specs.declared.stage.Kind.TheVariants.{Xfer, Count, Remove};
 ghost use Rattle.ig_record.specs.Sound.{is_sound};
 ghost use Rattle.ig_record.specs.Columns.{inputs_of, paths_of};
-ghost use Rattle.ig_record.specs.Stage.{task_count};
+ghost use Rattle.ig_record.specs.Stage.{task_box, task_count};
 ghost use Rattle.ig_meaning.specs.Task.{task_outputs, task_refusal};
 ghost use Rattle.ig_meaning.specs.Wants.{removal_of};
 ghost use Rattle.ig_cutout.specs.Inputs.{HoldsAll, paths_of as input_paths};
-ghost use Rattle.ig_task.specs.Answers.{missing_path, RefusesTask};
+ghost use Rattle.ig_task.specs.Answers.{AreMadeOf, missing_path, RefusesTask};
 ghost use Rattle.ig_task.specs.Facts.{given_to};
 ghost use Rattle.ig_task.specs.Wanted.{AreWanted};
 
 use crate::RunError;
+use ig_count::{count, write_counts};
 use ig_cutout::{Inputs, Output, Outputs, assemble, cut_chunks};
 use ig_record::{Kind, Stage, paths};
-use ig_space::{Path, Place, TryClone};
+use ig_space::{Path, Place, TryClone, Volume};
 use std::alloc::{AllocError, Global};
 
 /// The path of the first input that was not found.
@@ -39,10 +42,67 @@ fn dest(stage: &Stage) -> &Place
     &stage.dests.as_slice()[0]
 }
 
-/// The chunks of a copy, from the labels of the task's box.
-fn copied(alloc: Global, stage: &Stage, task: u32, given: &Inputs) -> Result<Outputs, RunError>
+/// The chunks of a copy, of the labels of the task's box.
+fn copied(alloc: Global, stage: &Stage, task: u32, volume: &Volume) -> Result<Outputs, AllocError>
     requires sound { is_sound stage.now ≡ true }
     requires copies { stage.now.kind ≡ Xfer }
+    requires below { task < task_count stage.now }
+    requires size { volume.now.size ≡ size_of (task_box stage.now task) }
+    requires fit { AllFit stage.now.source.geometry.width volume.now.labels }
+    ensures { IfOk result (AreMadeOf stage.now task volume.now.labels) }
+{
+    let outputs = cut_chunks(alloc, dest(stage), stage.task_box(task), volume)?;
+    Ok(outputs)
+}
+
+/// The path of the counts of a task.
+fn counts_path(alloc: Global, stage: &Stage, task: u32) -> Result<Path, AllocError>
+    requires sound { is_sound stage.now ≡ true }
+    requires counts { stage.now.kind ≡ Count }
+    requires below { task < task_count stage.now }
+    ensures { IfOk result (λ path. paths_of stage.now task ≡ path ∷ []) }
+{
+    let own = paths(alloc, stage, task)?;
+    own.as_slice()[0].copy()
+}
+
+/// The file of the counts of the labels of the task's box.
+fn counted(alloc: Global, stage: &Stage, task: u32, volume: &Volume) -> Result<Outputs, AllocError>
+    requires sound { is_sound stage.now ≡ true }
+    requires counts { stage.now.kind ≡ Count }
+    requires below { task < task_count stage.now }
+    ensures { IfOk result (AreMadeOf stage.now task volume.now.labels) }
+{
+    let counts = count(alloc, volume)?;
+    let mut outputs = Outputs::new(alloc);
+    outputs.push(Output {
+        path: counts_path(alloc, stage, task)?,
+        text: Some(write_counts(alloc, &counts)?),
+    })?;
+    Ok(outputs)
+}
+
+/// By the kind: the files that a task makes of the labels of its box.
+fn made_of(alloc: Global, stage: &Stage, task: u32, volume: &Volume) -> Result<Outputs, AllocError>
+    requires sound { is_sound stage.now ≡ true }
+    requires makes { stage.now.kind ≢ Remove }
+    requires below { task < task_count stage.now }
+    requires size { volume.now.size ≡ size_of (task_box stage.now task) }
+    requires fit { AllFit stage.now.source.geometry.width volume.now.labels }
+    ensures { IfOk result (AreMadeOf stage.now task volume.now.labels) }
+{
+    match stage.kind {
+        Kind::Xfer => copied(alloc, stage, task, volume),
+        Kind::Count => counted(alloc, stage, task, volume),
+        Kind::Downsample | Kind::Faces | Kind::Links | Kind::Labels => unreachable!(),
+        Kind::Relabel | Kind::Sum | Kind::Remove => unreachable!(),
+    }
+}
+
+/// The files that a task makes of the chunks in its box, all of which were found.
+fn files(alloc: Global, stage: &Stage, task: u32, given: &Inputs) -> Result<Outputs, RunError>
+    requires sound { is_sound stage.now ≡ true }
+    requires makes { stage.now.kind ≢ Remove }
     requires below { task < task_count stage.now }
     requires paths { input_paths given.now ≡ inputs_of stage.now task }
     requires found { missing_path given.now ≡ None }
@@ -51,7 +111,7 @@ fn copied(alloc: Global, stage: &Stage, task: u32, given: &Inputs) -> Result<Out
 {
     let area = stage.task_box(task);
     let volume = assemble(alloc, &stage.source, area, given)?;
-    let outputs = cut_chunks(alloc, dest(stage), area, &volume)?;
+    let outputs = made_of(alloc, stage, task, &volume)?;
     Ok(outputs)
 }
 
@@ -81,10 +141,8 @@ fn made(alloc: Global, stage: &Stage, task: u32, given: &Inputs) -> Result<Outpu
     ensures refused { IfErr result (λ e. (files : Reading) → HoldsAll files given.now → RefusesTask e (task_refusal stage.now task files)) }
 {
     match stage.kind {
-        Kind::Xfer => copied(alloc, stage, task, given),
         Kind::Remove => Ok(removals(alloc, stage, task)?),
-        Kind::Downsample | Kind::Faces | Kind::Links | Kind::Labels => unreachable!(),
-        Kind::Relabel | Kind::Count | Kind::Sum => unreachable!(),
+        _ => files(alloc, stage, task, given),
     }
 }
 
