@@ -37,7 +37,7 @@ use Rattle.ig_worker.specs.AloneGoing.{Agree, AllKnown, CanRun, IsKept, IsRun, R
 use Rattle.ig_worker.specs.AloneRounds.{noted_of}
 use Rattle.ig_worker.specs.CanFinish.{stage_at}
 use Rattle.ig_worker.specs.Fit.{AreFitNotes}
-use Rattle.ig_worker.specs.KeepsInputs.{inputs_are}
+use Rattle.ig_task.specs.OwnInputs.{inputs_are}
 use Rattle.ig_worker.specs.KeepsLists.{first_in, later_in, map_in, stage_in-among}
 use Rattle.ig_worker.specs.KeepsTasks.{known_sound}
 use Rattle.ig_worker.specs.Knows.{Knows}

@@ -23,7 +23,7 @@ use Rattle.ig_worker.specs.declared.notes.Notes.{Notes}
 use Rattle.ig_worker.specs.declared.phase.Phase.TheVariants.{Fetching, Finishing, Running}
 use Rattle.ig_worker.specs.Fit.{AreFitNotes, HasText, IsFetching, IsFinishing, IsRunning, IsStage}
 use Rattle.ig_worker.specs.KeepsFiles.{file_of, finished-none, found-holds, found-more, made-from}
-use Rattle.ig_worker.specs.KeepsInputs.{IsInput, inputs_are}
+use Rattle.ig_task.specs.OwnInputs.{IsInput, inputs_are}
 use Rattle.ig_worker.specs.KeepsKnown.{all_known, known_with, rested, try_rests}
 use Rattle.ig_worker.specs.KeepsLeases.{known_fetching, known_one, one_known}
 use Rattle.ig_worker.specs.KeepsLists.{map_in, none_in, stage_in-among}
