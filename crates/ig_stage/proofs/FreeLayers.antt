@@ -1,13 +1,13 @@
 -- What a maker knows of the place of a new stage once it has looked.
 use Rattle.std.proofs.Common.{arith, inl, inr, ◌⊎◌, ◌≡◌, ◌<◌, ◌≤◌, ◌+◌, ◌∙◌, ℕ, Bool, true, false, List, [], ◌∷◌, Option, None, Some, is_some, Contains, length, slice_get, get_or, codes, Result, refl, ap, sym, subst, true≢false}
 use Rattle.std.specs.Prelude.{option_map}
-use Rattle.std.proofs.lemmas.Option.{get_or_from_slice_get, slice_get-get_or}
+use Rattle.std.proofs.lemmas.Option.{get_or_from_slice_get, none-some, slice_get-get_or}
 use Rattle.ig_defs.specs.declared.step.Step.{Step}
 use Rattle.ig_defs.specs.Files.{Files, file_at}
 use Rattle.ig_defs.specs.Log.{Log, ByOthers, after, files_of}
 use Rattle.ig_defs.specs.Names.{StandsThroughout}
 use Rattle.ig_defs.specs.Own.{Moment}
-use Rattle.ig_meaning.specs.Making.{Making, info_if}
+use Rattle.ig_meaning.specs.Making.{Making, fresh_info, info_if}
 use Rattle.ig_meaning.specs.Jobs.{file_of}
 use Rattle.ig_meaning.specs.QueueApart.{AreLayersApart}
 use Rattle.ig_meaning.specs.Taken.{taken_by}
@@ -18,7 +18,7 @@ use Rattle.ig_record.specs.declared.stage.Kind.{Kind}
 use Rattle.ig_record.specs.declared.stage.Kind.TheVariants.{Remove}
 use Rattle.ig_record.specs.declared.stage.Stage.{Stage}
 use Rattle.ig_record.specs.Sound.{is_sound}
-use Rattle.ig_record.specs.SoundRows.{IsSoundKind, is_xfer, is_remove}
+use Rattle.ig_record.specs.SoundRows.{IsSoundKind, is_xfer, is_count, is_remove}
 use Rattle.ig_record.specs.SoundStages.{sound-kind}
 use Rattle.ig_record.specs.Columns.{needs_fresh_info, output_dirs, removed_by, removed_dir}
 use Rattle.ig_rule.specs.Dirs.{LiesIn}
@@ -104,6 +104,7 @@ named_info s info sound has = by_kind s info (sound-kind s sound) has
   where
     by_kind : (s : Stage) (info : InfoFile) → IsSoundKind s → s.info ≡ Some info → IsInfoName info.path
     by_kind s info (is_xfer copies no_scratch c) is = let same : c.put ≡ info = cc in record { dir = c.layer; is = ap (λ (i : InfoFile). i.path) (sym same) ∙ c.path_is }
+    by_kind s info (is_count counts scratch at c) is = absurd (none-some info (sym c.no_info ∙ is))
     by_kind s info (is_remove removes no_scratch c) is = let no_way : ⊥ = cc in absurd no_way
 
 pub info_apart : (q : List ℕ) (s : Stage) (n : ℕ) → IsOutsideQueue q (facts_of n s) → (info : InfoFile) → s.info ≡ Some info → IsApartFrom q info.path
@@ -201,21 +202,24 @@ is_info : (b : Bool) (own : Option InfoFile) (info : InfoFile) → info_if b own
 is_info true own info is = is
 is_info false own info is = let no_way : ⊥ = cc in absurd no_way
 
+pub fresh_is : (s : Stage) (info : InfoFile) → fresh_info s ≡ Some info → s.info ≡ Some info
+fresh_is s info is = is_info (needs_fresh_info s.kind) s.info info is
+
 -- Where the info was not there and its directories are empty, its place is free.
 pub is_free : {T : Type 0} (request : Request) (rule now : Pipeline) (q : List ℕ) (stages : List Stage) (s : Stage) (making : List Moment → Making) (next : T → List Moment → Making)
     (old new : Log) (result : Result T MakeError) → now ≡ rule → AreLayersApart q request → IsPlanned stages request s → CanRun s → taken_by stages s ≡ None
     → KnowsQueue rule q stages (files_of old) → Looks (is_allowed now) making next old new result → HasNoInfo s (files_of old)
-    → (KnowsQueue now q stages (files_of old) → AreEmptyDirs q stages (output_dirs s) (files_of new)) → IsFree q stages s (files_of new)
-is_free {T = T} request rule now q stages s making next old new result same layers planned can free k looks fresh empty = record {
+    → (dirs : List (List ℕ)) → dirs ≡ output_dirs s → (KnowsQueue now q stages (files_of old) → AreEmptyDirs q stages dirs (files_of new)) → IsFree q stages s (files_of new)
+is_free {T = T} request rule now q stages s making next old new result same layers planned can free k looks fresh dirs are empty = record {
   knows = (looks_know {T = T} now q stages making next old new result looks here).knows;
   no_info = λ info has.
-      let own = is_info (needs_fresh_info s.kind) s.info info has in
+      let own = fresh_is s info has in
       looks_same {T = T} now q stages making next old new result looks here info.path
       (info_apart q s 0 outside info own)
       (info_of_none q stages (files_of old) k.knows s free info own (named_info s info can.sound own))
       ∙ fresh info has;
   empty = λ path l.
-      empty here l.dir l.one path l.lies
+      empty here l.dir (subst (λ (ds : List (List ℕ)). Contains ds l.dir) (sym are) l.one) path l.lies
       (λ x. no_queue_path q l.dir path x (outside.outputs l.dir l.one) l.lies)
       (output_of_none q stages (files_of old) k.knows s free l.dir path l.one l.lies);
 }

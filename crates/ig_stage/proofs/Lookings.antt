@@ -19,7 +19,7 @@ use Rattle.ig_task.specs.declared.pipeline.Pipeline.{Pipeline}
 use Rattle.ig_stage.specs.Errors.{make_error_of}
 use Rattle.ig_stage.specs.Looking.{AllListTruly, AreNames, IsMakingOf, Looks, OthersLook}
 use Rattle.ig_stage.specs.declared.error.MakeError.{MakeError}
-use Rattle.ig_stage.specs.declared.error.MakeError.TheVariants.{Absent, BadRecord, TooManyStages, Missing, BadInfo, NoScale, DestNotEmpty, Taken, ShapeUnfit, TooManyTasks, TaskTooLarge, Failed, Memory}
+use Rattle.ig_stage.specs.declared.error.MakeError.TheVariants.{Absent, BadRecord, TooManyStages, Missing, BadInfo, NoScale, NoStage, DestNotEmpty, Taken, ShapeUnfit, TooManyTasks, TaskTooLarge, Failed, Memory}
 use Rattle.ig_stage.proofs.OthersLooks.{look_in_parts}
 
 -- a step that looks at a file, or lists a directory, is one that does
@@ -88,6 +88,7 @@ module _ (allows : Bool → Files → Act → Type 0) where
   made_then making middle next ms more (Err (Missing path)) first then = λ rest. ap making (append_assoc ms more rest) ∙ first (more ++ rest) ∙ then rest
   made_then making middle next ms more (Err (BadInfo path cause)) first then = λ rest. ap making (append_assoc ms more rest) ∙ first (more ++ rest) ∙ then rest
   made_then making middle next ms more (Err (NoScale mip count)) first then = λ rest. ap making (append_assoc ms more rest) ∙ first (more ++ rest) ∙ then rest
+  made_then making middle next ms more (Err (NoStage kind)) first then = λ rest. ap making (append_assoc ms more rest) ∙ first (more ++ rest) ∙ then rest
   made_then making middle next ms more (Err (DestNotEmpty path)) first then = λ rest. ap making (append_assoc ms more rest) ∙ first (more ++ rest) ∙ then rest
   made_then making middle next ms more (Err (Taken stage)) first then = λ rest. ap making (append_assoc ms more rest) ∙ first (more ++ rest) ∙ then rest
   made_then making middle next ms more (Err (ShapeUnfit axis)) first then = λ rest. ap making (append_assoc ms more rest) ∙ first (more ++ rest) ∙ then rest

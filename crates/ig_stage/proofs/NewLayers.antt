@@ -1,5 +1,6 @@
 -- What looking at the new layer tells of the making.
 use Rattle.std.proofs.Common.{◌≡◌, ℕ, ◌+◌, ◌<◌, ◌≤◌, zero, suc, Bool, false, true, List, [], ◌∷◌, length, drop, get_or, Option, None, Some, slice_get, Result, Ok, Err, refl, ap, subst, sym, ◌∙◌, is_some, arith}
+use Rattle.std.specs.Prelude.{option_map}
 use Rattle.ig_space.specs.Path.{joined}
 use Rattle.ig_defs.specs.declared.step.Act.{Act}
 use Rattle.ig_defs.specs.declared.step.Act.TheVariants as act
@@ -44,6 +45,13 @@ drop_whole (x ∷ xs) (suc n) over = drop_whole xs n (omega (arith, over))
 pub empty_from_none : {A : Type 0} (xs : List A) → None ≡ slice_get xs 0 → xs ≡ []
 empty_from_none [] none = refl
 empty_from_none (x ∷ xs) none = let no_item : ⊥ = cc in absurd no_item
+
+-- ---- what was found of the info that has to be new
+pub found_some : {B : Type 0} (f : B → InfoFile) (found : Option B) (b : B) (fresh : Option InfoFile) → option_map f found ≡ fresh → found ≡ Some b → fresh ≡ Some (f b)
+found_some f found b fresh same is = sym same ∙ ap (option_map f) is
+
+pub found_none : {B : Type 0} (f : B → InfoFile) (found : Option B) (fresh : Option InfoFile) → option_map f found ≡ fresh → found ≡ None → fresh ≡ None
+found_none f found fresh same is = sym same ∙ ap (option_map f) is
 
 module _ (allows : Bool → Files → Act → Type 0) (earlier : List Stage) (planned_as : Stage → List Moment → Making) where
   -- what is left is to look at these directories

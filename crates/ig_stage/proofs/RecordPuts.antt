@@ -31,7 +31,7 @@ use Rattle.ig_task.specs.Pipeline.{is_allowed}
 use Rattle.ig_task.specs.declared.pipeline.Pipeline.{Pipeline}
 use Rattle.ig_stage.specs.Made.{CanRecord, MayRecord}
 use Rattle.ig_stage.specs.Open.{IsOpen, maker_rule}
-use Rattle.ig_stage.proofs.FreeLayers.{info_apart, info_of_none, named_info, output_of_none}
+use Rattle.ig_stage.proofs.FreeLayers.{fresh_is, info_apart, info_of_none, named_info, output_of_none}
 
 -- ---- what others keep
 
@@ -44,9 +44,10 @@ module _ (q : List ℕ) (stages : List Stage) (s : Stage) (files : Files) (a : A
   can_still = record {
     free = record {
       knows = knows_keep kinds q stages files a may can.free.knows;
-      no_info = λ info has.
+      no_info = λ info fresh.
+          let has = fresh_is s info fresh in
           still_none info.path (info_apart q s (length stages) can.outside info has)
-          (info_of_none q stages files can.free.knows s can.not_taken info has (named_info s info can.sound has)) (can.free.no_info info has);
+          (info_of_none q stages files can.free.knows s can.not_taken info has (named_info s info can.sound has)) (can.free.no_info info fresh);
       empty = λ path l.
           still_none path (λ x is. no_queue_path q l.dir path x (can.outside.outputs l.dir l.one) l.lies is)
           (output_of_none q stages files can.free.knows s can.not_taken l.dir path l.one l.lies) (can.free.empty path l);

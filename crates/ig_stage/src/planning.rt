@@ -220,6 +220,7 @@ fn scratch_of(
 }
 
 /// Plans the counts of this scale's voxels.
+#[tactic(auto, unfolding(ig_space::specs::Path::is_path))]
 fn plan_count(alloc: Global, request: &Request, scale: &Scale) -> Result<Stage, MakeError>
     requires limits { HasLimits request.now }
     requires counts { request.now.kind ≡ Count }

@@ -1,10 +1,10 @@
-use Rattle.std.proofs.Common.{ap, refl, subst, ◌∙◌, Err}
+use Rattle.std.proofs.Common.{ap, refl, ◌∙◌, Err}
 use Rattle.std.proofs.lemmas.Result.{err_from_is_err_and}
 use Rattle.ig_meaning.specs.Making.{Planned}
-use Rattle.ig_stage.specs.Free.{AreEmptyDirs}
 use Rattle.ig_stage.specs.Requests.{shown_request}
 use Rattle.ig_stage.proofs.FreeLayers.{is_free, looks_know}
 use Rattle.ig_stage.proofs.Lookings.{looks_error, under_rule}
+use Rattle.ig_stage.proofs.Sounds.{row}
 use Rattle.ig_stage.proofs.WholeMakings.{of_stage, stage_made, dir_is_empty, dir_not_empty, info_is_absent, info_not_absent, not_fit, plan_forgotten, plan_made, plan_not_made}
 use Rattle.ig_stage.proofs.making.check.Goals as goal
 
@@ -18,6 +18,9 @@ returns-in_err-stage-clause-looks g c = λ tells planned_as.
     let p = err_from_is_err_and c.from_residual-in_err-stage.result c.from_residual-in_err-stage.ensures.1 in
     plan_not_made _ c.args.earlier.now planned_as _ _ _ _ _ _ (p.1 ∙ ap Err p.2)
     (c.in_ok-bytes.ensures.looks tells c.args.earlier.now planned_as (shown_request c.args.request.now) refl) c.in_err-stage.ensures.refused
+
+pub dirs-requires : goal.dirs-requires
+dirs-requires g c = (row c.in_ok-stage.stage c.in_ok-stage.ensures.draft).keeps
 
 pub returns-in_err-dirs-clause-looks : goal.returns-in_err-dirs-clause-looks
 returns-in_err-dirs-clause-looks g c = λ tells planned_as.
@@ -79,4 +82,4 @@ returns-clause-free g c = λ tells q layers knows.
     is_free (shown_request c.args.request.now) _ _ q earlier s _ _ _ _ _ (c.in_ok-check_info.ensures.rule ∙ c.in_ok-bytes.ensures.rule) layers
     (record { bytes = _; is = c.in_ok-stage.ensures.planned }) c.in_ok-check_after.ensures.can_run c.in_ok-check_after.ensures.not_taken second
     (c.in_ok-check_dirs.ensures.looks tells earlier Planned s) (c.in_ok-check_info.ensures.absent tells)
-    (λ here. subst (λ dirs. AreEmptyDirs q earlier dirs _) c.in_ok-dirs.ensures (c.in_ok-check_dirs.ensures.empty tells q earlier here))
+    _ c.in_ok-dirs.ensures (c.in_ok-check_dirs.ensures.empty tells q earlier)
