@@ -13,8 +13,8 @@ use Rattle.ig_meaning.specs.TaskBoxes.{task_box-few}
 use Rattle.ig_cutout.specs.Inputs.{HoldsAll, Says}
 use Rattle.ig_cutout.specs.declared.types.Output.{Output}
 use Rattle.ig_task.specs.Answers.{RefusesTask}
+use Rattle.ig_task.specs.KindFacts.{files-inputs}
 use Rattle.ig_task.specs.Kinds.{files-of}
-use Rattle.ig_task.specs.OwnInputs.{files-inputs}
 use Rattle.ig_task.specs.declared.error.RunError.{RunError}
 use Rattle.ig_task.proofs.TaskRuns.{files-makes, refused-cut}
 use Rattle.ig_task.proofs.running.files.Goals as goal

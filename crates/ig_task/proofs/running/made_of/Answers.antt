@@ -8,5 +8,7 @@ unreachable-requires c = not_come c.args.stage.now c.requires.sound (elim c.in-D
 
 pub unreachable-requires-in-Relabel : goal.unreachable-requires-in-Relabel
 unreachable-requires-in-Relabel c =
-    elim c.in-Relabel.is [ inl e ↦ not_come c.args.stage.now c.requires.sound (ap has_come e)
-                         | inr more ↦ (elim more [ inl e ↦ not_come c.args.stage.now c.requires.sound (ap has_come e) | inr e ↦ c.requires.makes e ]) ]
+    elim c.in-Relabel.is [
+      | inl e ↦ not_come c.args.stage.now c.requires.sound (ap has_come e)
+      | inr more ↦ (elim more [ inl e ↦ not_come c.args.stage.now c.requires.sound (ap has_come e) | inr e ↦ c.requires.makes e ])
+    ]
