@@ -1,13 +1,13 @@
 -- What a task makes of what was found of its inputs.
-use Rattle.std.proofs.Common.{arith, ◌≡◌, ◌≢◌, ◌<◌, ◌≤◌, ◌+◌, ℕ, zero, suc, Bool, true, false, if◌then◌else◌, List, [], ◌∷◌, ◌++◌, Option, None, Some, is_none, option_map, option_and_then, map, refl, sym, ap, subst, true≢false, ◌∙◌}
+use Rattle.std.proofs.Common.{arith, ◌≡◌, ◌<◌, ◌≤◌, ◌+◌, ℕ, zero, suc, true, false, if◌then◌else◌, List, [], ◌∷◌, ◌++◌, Option, None, Some, is_none, get_or, IfOk, Result, Ok, Err, option_map, option_and_then, map, refl, sym, ap, subst, true≢false, ◌∙◌}
 use Rattle.std.proofs.lemmas.Option.{none-some, same_Some}
 use Rattle.ig_space.specs.declared.point.Box3.{Box3}
 use Rattle.ig_space.specs.declared.place.Place.{Place}
 use Rattle.ig_space.specs.Cells.{IsIn-is_in, point_at-place}
 use Rattle.ig_space.specs.Chunk.{chunk_path}
-use Rattle.ig_space.specs.Chunks.{chunk_in, chunks_in, listed}
+use Rattle.ig_space.specs.Chunks.{chunk_in, listed}
 use Rattle.ig_space.specs.Geometry.{count}
-use Rattle.ig_space.specs.Grid.{cell, cell_count, chunks_of, hull, is_in, point_at, size_of, space_of}
+use Rattle.ig_space.specs.Grid.{cell, cell_count, chunks_of, hull, point_at, size_of, space_of}
 use Rattle.ig_count.specs.CountsFile.{counts_text}
 use Rattle.ig_count.specs.Tables.{counts_of}
 use Rattle.ig_defs.specs.Own.{File}
@@ -28,7 +28,7 @@ use Rattle.ig_meaning.specs.Refusal as refusal
 use Rattle.ig_meaning.specs.Refusal.{Refusal, refusal_of}
 use Rattle.ig_meaning.specs.Sequential.{outputs_at-append}
 use Rattle.ig_meaning.specs.Task.{absent_in, first_absent, first_damaged, labels_given, labels_within, makes_by, refusal_by, task_outputs, task_refusal, texts_given, unless}
-use Rattle.ig_meaning.specs.Wants.{Want, chunk_want, count_want, output_by, outputs_at, put_at, removal_of, text_by, wants_by, with_first}
+use Rattle.ig_meaning.specs.Wants.{chunk_want, count_want, output_by, outputs_at, put_at, removal_of, text_by, wants_by, with_first}
 use Rattle.ig_cutout.specs.declared.types.Input.{Input}
 use Rattle.ig_cutout.specs.declared.types.Output.{Output}
 use Rattle.ig_cutout.specs.declared.error.CutError.{CutError}
@@ -204,8 +204,14 @@ copy-made s sound copies k below dest one volume outputs cut =
 
 -- ---- counts
 -- the only file of a task
-pub count-file : (s : Stage) → is_sound s ≡ true → s.kind ≡ Count → IsNumbered s
+pub count-file : (s : Stage) → is_sound s ≡ true → s.kind ≡ Count → IsNumbered s (count_want s)
 count-file s sound counts = count-numbered s (IsSound-from s sound) counts (count-of s sound counts)
+
+-- the first of the paths of a task, copied
+pub only-path : {E : Type 0} (own seen : List (List ℕ)) (p first : List ℕ) (copied : Result (List ℕ) E) → own ≡ p ∷ [] → seen ≡ own → first ≡ get_or seen 0 first → IfOk copied (λ path. path ≡ first)
+    → IfOk copied (λ path. own ≡ path ∷ [])
+only-path own seen p first (Ok path) one is at same = one ∙ ap (λ q. q ∷ []) (sym (same ∙ at ∙ ap (λ paths. get_or paths 0 first) (is ∙ one)))
+only-path own seen p first (Err e) one is at same = tt
 
 pub count-made : (s : Stage) → is_sound s ≡ true → s.kind ≡ Count → (k : ℕ) → k < task_count s → (path text : List ℕ) (labels : List ℕ) → owned_paths s k ≡ path ∷ [] → text ≡ counts_text (counts_of labels)
     → AreMadeOf s k labels (put_at path text ∷ [])
@@ -215,7 +221,7 @@ count-made s sound counts k below path text labels own is volume are =
     let box : cell (cells s) k ≡ task_box s k = ap (λ step. cell (record { space = space_of s.source.geometry; step = step }) k) (sym (ap (λ (kind : Kind). task_size kind s) counts)) in
     let wanted : text_by volume (Some (count_want s k)) ≡ Some text = ap (option_and_then (count_want s k).text) (ap (labels_in volume) box ∙ are) ∙ ap Some (sym is) in
     let same : numbered n.dir n.ending k ≡ path = cc (n.file k, own) in
-    subst (λ p. outputs_at s volume (owned_paths s k) ≡ Some (put_at p text ∷ [])) same (numbered-made s h n k below volume text wanted)
+    subst (λ p. outputs_at s volume (owned_paths s k) ≡ Some (put_at p text ∷ [])) same (numbered-made s h (count_want s) n k below volume text wanted)
 
 -- ---- removals
 removed_at : (s : Stage) → s.kind ≡ Remove → (labels : Labels) (paths : List (List ℕ)) → outputs_at s labels paths ≡ Some (map removal_of paths)

@@ -33,14 +33,13 @@ is_scratch : (scratch : List ℕ) (o : Option (List ℕ)) → o ≡ Some scratch
 is_scratch scratch None at keeps = absurd (none-some scratch at)
 is_scratch scratch (Some dir) at keeps = subst (λ o. IfSome o IsScratch) at keeps
 
-pub count-numbered : (s : Stage) → IsSound s → s.kind ≡ Count → IsCount s → IsNumbered s
+pub count-numbered : (s : Stage) → IsSound s → s.kind ≡ Count → IsCount s → IsNumbered s (count_want s)
 count-numbered s h is c =
     let keeps = is_scratch c.scratch s.scratch c.at h.layers.row.keeps in
     let long = length-append c.scratch (47 ∷ codes "parts") in
     record {
       dir = joined c.scratch (codes "parts");
       ending = codes ".counts";
-      want = count_want s;
       is_dir = is_path-joined c.scratch (codes "parts") keeps.path parts_path (omega (arith, keeps.short, long));
       short = omega (arith, keeps.short, long);
       bytes = are_bytes-from (codes ".counts") refl;
@@ -63,10 +62,10 @@ count-makes_files s h is c =
       shape = ap (λ (kind : Kind). task_size kind s) is;
       reads = λ k. ap (λ (kind : Kind). box_read kind s k) is;
       no_scratch = λ k. ap (λ (kind : Kind). scratch_read kind s k) is;
-      wants = numbered-wants s h n;
-      wanted_at = numbered-path s h n;
-      path_in = numbered-in s h n;
-      one_task = one-number s h n;
+      wants = numbered-wants s h (count_want s) n;
+      wanted_at = numbered-path s h (count_want s) n;
+      path_in = numbered-in s h (count_want s) n;
+      one_task = one-number s h (count_want s) n;
       info_name = λ info e. absurd (no_info info e);
       info_apart = λ info e within. no_info info e;
     }

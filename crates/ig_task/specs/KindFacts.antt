@@ -1,12 +1,14 @@
 -- What each kind of stage owes: one record, from which its laws follow.
-use Rattle.std.specs.Prelude.{◌≡◌, ◌<◌, ℕ, true, List, [], None, Some, is_some, Contains, option_map}
-use Rattle.std.proofs.Common.{sym, subst}
+use Rattle.std.specs.Prelude.{◌≡◌, ◌<◌, ℕ, true, List, [], ◌++◌, Option, None, Some, is_some, Contains, option_map}
+use Rattle.std.proofs.Common.{ap, append-nil, sym, subst, ◌∙◌}
+use Rattle.ig_space.specs.declared.point.Box3.{Box3}
+use Rattle.ig_space.specs.Chunks.{chunks_in}
 use Rattle.ig_defs.specs.Own.{File}
 use Rattle.ig_layer.specs.Layer.{Reading}
 use Rattle.ig_record.specs.declared.stage.Kind.{Kind}
 use Rattle.ig_record.specs.declared.stage.Kind.TheVariants.{Xfer, Count, Remove}
 use Rattle.ig_record.specs.declared.stage.Stage.{Stage}
-use Rattle.ig_record.specs.Columns.{box_read, output_dirs, paths_of, removed_dir, scratch_read}
+use Rattle.ig_record.specs.Columns.{box_read, chunks_met, inputs_of, output_dirs, paths_of, removed_dir, scratch_read}
 use Rattle.ig_record.specs.SoundKinds.{IsCopyOf, IsRemoval}
 use Rattle.ig_record.specs.SoundRows.{IsSoundKind, is_count, is_remove, is_xfer}
 use Rattle.ig_record.specs.Stage.{task_box, task_count, task_size}
@@ -16,13 +18,13 @@ use Rattle.ig_rule.specs.Facts.{IsInfoName, IsPath, LiesInOne}
 use Rattle.ig_task.specs.Facts.{facts_of}
 
 -- ---- by the kind
--- a sound stage that makes files in this scratch directory
+-- a stage of counts has a directory for its files, and no new scale or info
 pub record IsCount (s : Stage) : Type 0 where
   pub scratch : List ℕ
   pub at : s.scratch ≡ Some scratch
   pub alone : IsRemoval s.dests s.info
 
--- what a sound stage of each kind is; the kinds that are not listed have none
+-- what a sound stage of each kind has; of the kinds that are not listed none is sound
 abbrev pub IsOf : Kind → Stage → Type 0
 IsOf Xfer s = IsCopyOf s.source s.dests s.info
 IsOf Count s = IsCount s
@@ -61,3 +63,10 @@ pub data KindFacts (s : Stage) : Type 0 where
 -- the paths of a stage are the same, whatever its number
 pub path-of : (n m : ℕ) (s : Stage) (path : List ℕ) → IsPath (facts_of n s) path → IsPath (facts_of m s) path
 path-of n m s path u = record { task = u.task; below = u.below; among = u.among }
+
+-- a task that makes files reads the chunks that meet its box
+pub files-inputs : (s : Stage) → MakesFiles s → (k : ℕ) → inputs_of s k ≡ chunks_in s.source (task_box s k)
+files-inputs s m k =
+    ap (λ (box : Option Box3). chunks_met s.source box ++ scratch_read s.kind s k) (m.reads k)
+    ∙ ap (λ (scratch : List (List ℕ)). chunks_in s.source (task_box s k) ++ scratch) (m.no_scratch k)
+    ∙ append-nil (chunks_in s.source (task_box s k))

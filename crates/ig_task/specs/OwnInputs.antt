@@ -1,6 +1,6 @@
 -- The inputs of a stage's tasks, kind by kind: they are chunks of its source, and no task makes one of another.
-use Rattle.std.specs.Prelude.{◌≡◌, ◌≢◌, ◌<◌, ℕ, true, false, List, [], ◌++◌, length, Option, Some, is_some, Contains, option_map, refl}
-use Rattle.std.proofs.Common.{arith, ap, sym, subst, ◌∙◌, true≢false, append-nil}
+use Rattle.std.specs.Prelude.{◌≡◌, ◌<◌, ℕ, true, false, List, [], length, Option, Some, is_some, Contains, option_map}
+use Rattle.std.proofs.Common.{arith, ap, sym, subst, ◌∙◌, true≢false}
 use Rattle.std.proofs.lemmas.List.Elements.{Contains-append_left}
 use Rattle.ig_space.specs.declared.point.Box3.{Box3}
 use Rattle.ig_space.specs.Cells.{cell-within, low-in_cell}
@@ -12,7 +12,7 @@ use Rattle.ig_space.specs.HullCells.{hull-cells}
 use Rattle.ig_record.specs.declared.stage.InfoFile.{InfoFile}
 use Rattle.ig_record.specs.declared.stage.Kind.{Kind}
 use Rattle.ig_record.specs.declared.stage.Stage.{Stage}
-use Rattle.ig_record.specs.Columns.{box_read, chunks_met, inputs_by, inputs_of, output_dirs, paths_of, removed_dir, scratch_read}
+use Rattle.ig_record.specs.Columns.{box_read, chunks_met, inputs_by, inputs_of, output_dirs, removed_dir, scratch_read}
 use Rattle.ig_record.specs.Sound.{is_sound}
 use Rattle.ig_record.specs.SoundStages.{IsSound, IsSound-from, tasks-IsGrid}
 use Rattle.ig_record.specs.Stage.{task_box, task_count, task_grid}
@@ -23,9 +23,7 @@ use Rattle.ig_meaning.specs.Lists.{listed-from}
 use Rattle.ig_meaning.specs.Sequential.{IsElsewhere}
 use Rattle.ig_meaning.specs.Wants.{is_chunk_of}
 use Rattle.ig_rule.specs.DirPaths.{dir_is}
-use Rattle.ig_rule.specs.Facts.{StageLaws}
-use Rattle.ig_task.specs.Facts.{facts_of}
-use Rattle.ig_task.specs.KindFacts.{KindFacts, MakesFiles, makes_files, removes}
+use Rattle.ig_task.specs.KindFacts.{KindFacts, files-inputs, makes_files, removes}
 use Rattle.ig_task.specs.Kinds.{kind-facts, stage-laws}
 use Rattle.ig_task.specs.OwnedPaths.{removal-removes}
 
@@ -49,13 +47,6 @@ chunk_met s h k below path among =
 
 nothing_in : {A : Type 0} (x : A) → Contains [] x → ⊥
 nothing_in x h = absurd (omega (arith, h.1))
-
--- a task that makes files reads the chunks that meet its box
-pub files-inputs : (s : Stage) → MakesFiles s → (k : ℕ) → inputs_of s k ≡ chunks_in s.source (task_box s k)
-files-inputs s m k =
-    ap (λ (box : Option Box3). chunks_met s.source box ++ scratch_read s.kind s k) (m.reads k)
-    ∙ ap (λ (scratch : List (List ℕ)). chunks_in s.source (task_box s k) ++ scratch) (m.no_scratch k)
-    ∙ append-nil (chunks_in s.source (task_box s k))
 
 input_by : (s : Stage) → IsSound s → KindFacts s → (k : ℕ) → k < task_count s → (path : List ℕ) → Contains (inputs_of s k) path → IsInput s path
 input_by s h (makes_files m) k below path among = record {

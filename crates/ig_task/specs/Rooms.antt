@@ -9,7 +9,7 @@ use Rattle.ig_defs.specs.Files.{Files, file_at}
 use Rattle.ig_defs.specs.Own.{File}
 use Rattle.ig_record.specs.declared.stage.InfoFile.{InfoFile}
 use Rattle.ig_record.specs.declared.stage.Kind.{Kind}
-use Rattle.ig_record.specs.declared.stage.Kind.TheVariants.{Xfer, Remove}
+use Rattle.ig_record.specs.declared.stage.Kind.TheVariants.{Remove}
 use Rattle.ig_record.specs.declared.stage.Stage.{Stage}
 use Rattle.ig_record.specs.Sound.{is_sound}
 use Rattle.ig_record.specs.SoundRows.{IsSoundKind, is_xfer, is_count, is_remove}
