@@ -12,6 +12,7 @@ use crate::causes::cause_text;
 use crate::done::four_digits;
 use ig_cutout::Cause;
 use ig_info::InfoError;
+use ig_record::{Kind, kind_word};
 use ig_stage::{LocalError, MakeError};
 use ig_task::RunError;
 use ig_worker::WorkerError;
@@ -99,6 +100,13 @@ fn too_many_parts(alloc: Global, count: u64) -> Result<String, AllocError>
     format!(in alloc; "igneous: too many parts {count}\n")
 }
 
+fn no_stage(alloc: Global, kind: Kind) -> Result<String, AllocError>
+    ensures { IfOk result (λ line. string_bytes line ≡ fault_line (refusal_text (refusal.NoStage kind))) }
+{
+    let word = kind_word(kind);
+    format!(in alloc; "igneous: no stage {word}\n")
+}
+
 fn not_empty(alloc: Global, path: &str) -> Result<String, AllocError>
     ensures { IfOk result (λ line. string_bytes line ≡ fault_line (refusal_text (refusal.NotEmpty path.now))) }
 {
@@ -181,6 +189,7 @@ fn line_of_make(alloc: Global, e: &MakeError) -> FaultLine
         MakeError::Missing { path } => refused(missing(alloc, path.as_str())),
         MakeError::BadInfo { path, cause } => refused(bad_info(alloc, path.as_str(), cause)),
         MakeError::NoScale { mip, count } => refused(no_scale(alloc, *mip, *count)),
+        MakeError::NoStage { kind } => refused(no_stage(alloc, *kind)),
         MakeError::DestNotEmpty { path } => refused(not_empty(alloc, path.as_str())),
         MakeError::Taken { stage } => refused(taken(alloc, *stage)),
         MakeError::ShapeUnfit { axis } => refused(shape_unfit(alloc, *axis)),
