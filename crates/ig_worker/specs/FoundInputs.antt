@@ -21,7 +21,7 @@ use Rattle.ig_cutout.specs.declared.types.Input.{Input}
 use Rattle.ig_cutout.specs.Inputs.{HoldsAll, paths_of}
 use Rattle.ig_record.specs.declared.stage.Stage.{Stage}
 use Rattle.ig_record.specs.Sound.{is_sound}
-use Rattle.ig_record.specs.SoundStages.{IsSound-from, sound-kind}
+use Rattle.ig_record.specs.SoundStages.{IsSound-from}
 use Rattle.ig_record.specs.Columns.{box_read, chunks_met, inputs_of}
 use Rattle.ig_record.specs.Stage.{task_count}
 use Rattle.ig_meaning.specs.Agreeing.{box_read-within}
@@ -115,7 +115,7 @@ met-apart place fits (Some box) within = chunks-apart place fits box (within box
 pub inputs-apart : (s : Stage) → is_sound s ≡ true → (k : ℕ) → k < task_count s → AreApart (inputs_of s k)
 inputs-apart s sound k below =
     let met = chunks_met s.source (box_read s.kind s k) in
-    let all : inputs_of s k ≡ met = ap (λ (scratch : List (List ℕ)). met ++ scratch) (no_scratch s (sound-kind s sound) k) ∙ append-nil met in
+    let all : inputs_of s k ≡ met = ap (λ (scratch : List (List ℕ)). met ++ scratch) (no_scratch s sound k) ∙ append-nil met in
     subst AreApart (sym all) (met-apart s.source (IsSound-from s sound).fits (box_read s.kind s k) (box_read-within s k sound below))
 
 -- So what was found of them holds all.
