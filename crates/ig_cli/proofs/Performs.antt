@@ -23,7 +23,7 @@ use Rattle.ig_record.specs.declared.stage.Stage.{Stage}
 use Rattle.ig_stage.specs.declared.error.LocalError.{LocalError}
 use Rattle.ig_stage.specs.declared.error.LocalError.TheVariants.{Make}
 use Rattle.ig_stage.specs.declared.error.MakeError.{MakeError}
-use Rattle.ig_stage.specs.declared.error.MakeError.TheVariants.{Absent, BadRecord, TooManyStages, Missing, BadInfo, NoScale, DestNotEmpty, Taken, ShapeUnfit, TooManyTasks, TaskTooLarge, Failed, Memory}
+use Rattle.ig_stage.specs.declared.error.MakeError.TheVariants.{Absent, BadRecord, TooManyStages, Missing, BadInfo, NoScale, NoStage, DestNotEmpty, Taken, ShapeUnfit, TooManyTasks, TaskTooLarge, Failed, Memory}
 use Rattle.ig_stage.specs.declared.enqueuing.Made as queue
 use Rattle.ig_stage.specs.declared.local.RanStage.{RanStage}
 use Rattle.ig_stage.specs.declared.request.Request as reading
@@ -141,6 +141,7 @@ made_never_finished (TooManyStages count) is = cc
 made_never_finished (Missing path) is = cc
 made_never_finished (BadInfo path cause) is = cc
 made_never_finished (NoScale mip count) is = cc
+made_never_finished (NoStage kind) is = cc
 made_never_finished (DestNotEmpty path) is = cc
 made_never_finished (Taken stage) is = cc
 made_never_finished (ShapeUnfit axis) is = cc

@@ -19,7 +19,7 @@ use Rattle.ig_record.specs.declared.stage.Stage.{Stage}
 use Rattle.ig_stage.specs.Made.{LooksFirst}
 use Rattle.ig_meaning.specs.Jobs.{planned_puts}
 use Rattle.ig_meaning.specs.Words.{command_of, queue_of_command, queue_of_words}
-use Rattle.ig_stage.specs.declared.error.MakeError.TheVariants.{Absent, BadRecord, TooManyStages, Missing as make_missing, BadInfo, NoScale, DestNotEmpty, Taken, ShapeUnfit, TooManyTasks, TaskTooLarge, Failed, Memory as make_memory}
+use Rattle.ig_stage.specs.declared.error.MakeError.TheVariants.{Absent, BadRecord, TooManyStages, Missing as make_missing, BadInfo, NoScale, NoStage, DestNotEmpty, Taken, ShapeUnfit, TooManyTasks, TaskTooLarge, Failed, Memory as make_memory}
 use Rattle.ig_cli.specs.declared.done.Done.{Done}
 use Rattle.ig_cli.specs.declared.done.Done.TheVariants.{Ran, Made}
 use Rattle.ig_cli.specs.declared.report.CommandError.{CommandError}
@@ -243,6 +243,7 @@ never_finished (Make (TooManyStages count)) is = cc
 never_finished (Make (make_missing path)) is = cc
 never_finished (Make (BadInfo path cause)) is = cc
 never_finished (Make (NoScale mip count)) is = cc
+never_finished (Make (NoStage kind)) is = cc
 never_finished (Make (DestNotEmpty path)) is = cc
 never_finished (Make (Taken stage)) is = cc
 never_finished (Make (ShapeUnfit axis)) is = cc

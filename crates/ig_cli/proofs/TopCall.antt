@@ -54,11 +54,14 @@ asked_of : (o : Option Command) (files : Files) (s : Stage) → stage_of_command
 asked_of None files s is = absurd (none-some s is)
 asked_of (Some command) files s is = (command, refl)
 
--- they are not those of a copy that is ready
+-- they are not those of another command, so of none that is ready
+pub not_asked : (words : List (List ℕ)) (plan : Plan) (command : Command) → Some plan ≡ plan_of_words words → command_of words ≡ Some command → ⊥
+not_asked words plan command some asked = none-some plan (sym (some ∙ no_plan words command asked))
+
 pub not_ready : (words : List (List ℕ)) (plan : Plan) (files : Files) → Some plan ≡ plan_of_words words → IsReady words files → ⊥
 not_ready words plan files some ready =
     let asked = asked_of (command_of words) files ready.stage ready.planned in
-    none-some plan (sym (some ∙ no_plan words asked.0 asked.1))
+    not_asked words plan asked.0 some asked.1
 
 -- ---- the queue
 -- that of the plan

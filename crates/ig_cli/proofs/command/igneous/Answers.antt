@@ -2,7 +2,7 @@ use Rattle.std.proofs.Common.{inr, None, Some, IfSome, ap, ◌∙◌, refl, sym,
 use Rattle.ig_worker.specs.Plans.{HasLimits}
 use Rattle.ig_cli.specs.Words.{texts_of}
 use Rattle.ig_cli.proofs.Drains.{holds_exactly}
-use Rattle.ig_cli.proofs.TopCall.{not_ready, of_other, of_worker, queue_given, stays_legal, unread_ends, unread_worked, worker_ends, worker_legal}
+use Rattle.ig_cli.proofs.TopCall.{not_asked, not_ready, of_other, of_worker, queue_given, stays_legal, unread_ends, unread_worked, worker_ends, worker_legal}
 use Rattle.ig_cli.proofs.WorkerFinishes.{worker_finishes}
 use Rattle.ig_cli.proofs.command.igneous.Goals as goal
 
@@ -13,6 +13,10 @@ returns-in-Ok-Some-clause-statuses g c = of_worker c.work.result c.work.ensures.
 pub returns-in-Ok-Some-clause-complete : goal.returns-in-Ok-Some-clause-complete
 returns-in-Ok-Some-clause-complete g c = λ tells ready store_quiet out_quiet.
     absurd (not_ready (texts_of c.args.words.now.items) c.in-Ok-Some.plan _ (sym c.in-Ok-Some.field-0-is ∙ c.in-Ok-Some.ensures.value) ready)
+
+pub returns-in-Ok-Some-clause-complete_made : goal.returns-in-Ok-Some-clause-complete_made
+returns-in-Ok-Some-clause-complete_made g c = λ tells q request asked legal can own store_quiet out_quiet.
+    absurd (not_asked (texts_of c.args.words.now.items) c.in-Ok-Some.plan _ (sym c.in-Ok-Some.field-0-is ∙ c.in-Ok-Some.ensures.value) asked)
 
 pub returns-in-Ok-Some-clause-drained : goal.returns-in-Ok-Some-clause-drained
 returns-in-Ok-Some-clause-drained g c = λ tells q in_use legal.

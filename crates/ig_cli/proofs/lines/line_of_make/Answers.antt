@@ -26,6 +26,11 @@ returns-in-NoScale c =
     tells_refusal (refusal.NoScale c.in-NoScale.mip c.in-NoScale.count) (refusal.NoScale c.in-NoScale.mip c.in-NoScale.count) _ _ refl
     (ap ending_of_make c.in-NoScale.is) (c.refused-in-NoScale.ensures (refusal.NoScale c.in-NoScale.mip c.in-NoScale.count) c.no_scale.ensures)
 
+pub returns-in-NoStage : goal.returns-in-NoStage
+returns-in-NoStage c =
+    tells_refusal (refusal.NoStage c.in-NoStage.kind) (refusal.NoStage c.in-NoStage.kind) _ _ refl
+    (ap ending_of_make c.in-NoStage.is) (c.refused-in-NoStage.ensures (refusal.NoStage c.in-NoStage.kind) c.no_stage.ensures)
+
 pub returns-in-ShapeUnfit : goal.returns-in-ShapeUnfit
 returns-in-ShapeUnfit c =
     tells_refusal (refusal.ShapeUnfit c.in-ShapeUnfit.axis) (refusal.ShapeUnfit c.in-ShapeUnfit.axis) _ _ refl
