@@ -1,5 +1,5 @@
 -- What a task of a stage is to be given, its source and what earlier passes want, and what it makes of that.
-use Rattle.std.specs.Prelude.{◌≡◌, ◌⊎◌, ◌<◌, ℕ, true, false, if◌then◌else◌, List, Option, None, Some, Contains, refl}
+use Rattle.std.specs.Prelude.{◌≡◌, ◌⊎◌, ◌<◌, ℕ, true, false, if◌then◌else◌, List, Option, None, Some, refl}
 use Rattle.std.proofs.Common.{ap, inl, inr, sym, ◌∙◌}
 use Rattle.std.proofs.lemmas.Bool.{cases_Bool}
 use Rattle.std.proofs.lemmas.Option.{none-some}
@@ -8,7 +8,7 @@ use Rattle.ig_space.specs.Geometry.{geometry_fits}
 use Rattle.ig_layer.specs.Layer.{Labels, Reading, volume_at}
 use Rattle.ig_cutout.specs.declared.types.Output.{Output}
 use Rattle.ig_record.specs.declared.stage.Stage.{Stage}
-use Rattle.ig_record.specs.Columns.{paths_of, scratch_read}
+use Rattle.ig_record.specs.Columns.{paths_of}
 use Rattle.ig_record.specs.Sound.{is_sound}
 use Rattle.ig_record.specs.SoundStages.{IsSound-from}
 use Rattle.ig_record.specs.Stage.{task_count}

@@ -7,7 +7,7 @@ use Rattle.ig_space.specs.declared.geometry.Grid.{Grid}
 use Rattle.ig_space.specs.CellBoxes.{cell-IsBox, chunks-IsGrid}
 use Rattle.ig_space.specs.declared.place.Place.{Place}
 use Rattle.ig_space.specs.ChunkPaths.{chunk_path-injective}
-use Rattle.ig_space.specs.Chunks.{chunk_in, chunks_in, listed}
+use Rattle.ig_space.specs.Chunks.{chunk_in, listed}
 use Rattle.ig_space.specs.Geometry.{geometry_fits}
 use Rattle.ig_space.specs.Grid.{IsBox, IsGrid, IsIn, IsWithin, cell, cell_count, chunks_of, hull, number_at, space_of}
 use Rattle.ig_space.specs.Hulls.{hull-IsGrid}

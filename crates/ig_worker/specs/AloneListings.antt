@@ -12,13 +12,11 @@ use Rattle.ig_meaning.specs.QueueMaking.{record_path, stages_dir}
 use Rattle.ig_queue.specs.FilesAt.{dead_path_is}
 use Rattle.ig_record.specs.declared.stage.Stage.{Stage}
 use Rattle.ig_record.specs.Reading.{record_in}
-use Rattle.ig_rule.specs.Facts.{Facts}
 use Rattle.ig_rule.specs.QueueFiles.{Dead, Record, queue_of}
 use Rattle.ig_rule.specs.QueueSteps.{holds}
 use Rattle.ig_rule.specs.Sound.{Sound}
 use Rattle.ig_rule.specs.SoundFiles.{none_there}
 use Rattle.ig_rule.specs.SoundNames.{has_record}
-use Rattle.ig_rule.specs.Stages.{stages_in}
 use Rattle.ig_rule.specs.declared.role.Role.TheVariants.{Worker}
 use Rattle.ig_task.specs.Facts.{stage_reader}
 use Rattle.ig_worker.specs.declared.notes.Notes.{Notes}

@@ -1,7 +1,7 @@
 -- A worker by itself that holds a task finds its inputs, runs it, hands over what it makes, and calls it done.
 use Rattle.std.specs.Prelude.{◌≡◌, ℕ, Bool, true, false, List, [], ◌∷◌, ◌++◌, length, Option, None, Some, IsSome, is_some, Contains, refl}
 use Rattle.std.specs.FinMap as maps
-use Rattle.std.proofs.Common.{ap, sym, subst, true≢false, ◌∙◌}
+use Rattle.std.proofs.Common.{ap, sym, subst, ◌∙◌}
 use Rattle.std.proofs.lemmas.Option.{get_or_from_slice_get, same_Some}
 use Rattle.ig_defs.specs.declared.queue_name.QueueName.{QueueName}
 use Rattle.ig_defs.specs.declared.step.Act.{Act}

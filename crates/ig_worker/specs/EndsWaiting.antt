@@ -1,5 +1,5 @@
 -- What is so where a worker waits, and where it tells dead letters.
-use Rattle.std.specs.Prelude.{◌≡◌, ◌≤◌, ℕ, true, List, [], ◌∷◌, length, Option, None, Some, Contains, IsSome, codes, refl}
+use Rattle.std.specs.Prelude.{◌≡◌, ◌≤◌, ℕ, true, List, [], ◌∷◌, length, Some, Contains, IsSome, codes, refl}
 use Rattle.std.proofs.Common.{arith, sym, subst, true≢false, ◌∙◌}
 use Rattle.ig_space.specs.Path.{is_path, joined}
 use Rattle.ig_space.specs.declared.task_id.TaskId.{TaskId}

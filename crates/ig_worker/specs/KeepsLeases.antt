@@ -6,7 +6,6 @@ use Rattle.std.proofs.lemmas.Bool.{and_from, ne_eqb, or_parts}
 use Rattle.std.proofs.lemmas.Slice.Eq.{bytes_eq-Decides}
 use Rattle.ig_defs.specs.declared.queue_name.QueueName.{QueueName}
 use Rattle.ig_defs.specs.Files.{Files}
-use Rattle.ig_defs.specs.Own.{File}
 use Rattle.ig_cutout.specs.declared.types.Input.{Input}
 use Rattle.ig_record.specs.declared.stage.Stage.{Stage}
 use Rattle.ig_record.specs.Columns.{inputs_of, output_dirs, removed_dir}
