@@ -10,7 +10,7 @@ use Rattle.ig_cutout.specs.Inputs.{HoldsAll}
 use Rattle.ig_meaning.specs.Task.{task_outputs}
 use Rattle.ig_task.specs.declared.error.RunError.{RunError}
 use Rattle.ig_task.specs.Facts.{given_to}
-use Rattle.ig_task.specs.MadeOutputs.{outputs-are_wanted}
+use Rattle.ig_task.specs.GivenPasses.{outputs-are_wanted}
 use Rattle.ig_task.specs.Wanted.{AreWanted}
 
 pub wanted_if : (s : Stage) → is_sound s ≡ true → (k : ℕ) → k < task_count s → (inputs : List Input) (result : Result (List Output) RunError)

@@ -16,7 +16,10 @@ pub mod NumberedFiles
 pub mod NumberedStages
 pub mod Counts
 pub mod MadeOutputs
+pub mod ReadPasses
+pub mod GivenPasses
 pub mod Runs
 pub mod OwnInputs
+pub mod InputPaths
 pub mod PutOutputs
 pub mod WholeCopies

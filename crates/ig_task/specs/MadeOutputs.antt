@@ -10,10 +10,8 @@ use Rattle.ig_record.specs.Columns.{paths_of, removed_dir, scratch_read}
 use Rattle.ig_record.specs.Sound.{is_sound}
 use Rattle.ig_record.specs.Stage.{task_count}
 use Rattle.ig_meaning.specs.Agreeing.{further, here}
-use Rattle.ig_meaning.specs.Sequential.{HasScratch, first-from, outputs_at-paths, task-wanted}
-use Rattle.ig_meaning.specs.Task.{task_outputs}
+use Rattle.ig_meaning.specs.Sequential.{HasScratch, first-from, outputs_at-paths}
 use Rattle.ig_meaning.specs.Wants.{Want, output_by, outputs_at, put_at, removal_of, text_by, wants_by}
-use Rattle.ig_task.specs.Facts.{given_to}
 use Rattle.ig_task.specs.KindFacts.{KindFacts, makes_files, removes}
 use Rattle.ig_task.specs.Kinds.{kind-facts}
 use Rattle.ig_task.specs.OwnedPaths.{removal-removes}
@@ -86,7 +84,3 @@ are-wanted s sound k below files outputs e = record {
 -- The texts of earlier passes that a task is to be given are those that these want.
 pub given-scratch : (s : Stage) → is_sound s ≡ true → (k : ℕ) (given : Reading) → HasScratch s k given
 given-scratch s sound k given path among = let none = ap length (no_scratch s sound k) in absurd (omega (arith, among.1, none))
-
--- What a task of a sound stage makes of what it is to be given is what the stage wants.
-pub outputs-are_wanted : (s : Stage) → is_sound s ≡ true → (k : ℕ) → k < task_count s → (files : Reading) (outputs : List Output) → task_outputs s k (given_to s files) ≡ Some outputs → AreWanted s k files outputs
-outputs-are_wanted s sound k below files outputs made = are-wanted s sound k below files outputs (task-wanted s k (given_to s files) outputs (given-scratch s sound k (given_to s files)) made)

@@ -1,7 +1,7 @@
--- The inputs of a stage's tasks, kind by kind: they are chunks of its source, and no task makes one of another.
-use Rattle.std.specs.Prelude.{◌≡◌, ◌<◌, ℕ, true, false, List, [], length, Option, Some, is_some, Contains, option_map}
-use Rattle.std.proofs.Common.{arith, ap, sym, subst, ◌∙◌, true≢false}
-use Rattle.std.proofs.lemmas.List.Elements.{Contains-append_left}
+-- The inputs of a stage's tasks: they are chunks of its source and files of earlier passes, and no task makes one of another.
+use Rattle.std.specs.Prelude.{◌≡◌, ◌⊎◌, ◌<◌, ℕ, true, false, List, [], length, Option, None, Some, is_some, Contains, option_map, refl}
+use Rattle.std.proofs.Common.{arith, inl, inr, ap, sym, subst, ◌∙◌, true≢false}
+use Rattle.std.proofs.lemmas.List.Elements.{Contains-append_cases, Contains-append_left}
 use Rattle.ig_space.specs.declared.point.Box3.{Box3}
 use Rattle.ig_space.specs.Cells.{cell-within, low-in_cell}
 use Rattle.ig_space.specs.CellBoxes.{chunks-IsGrid}
@@ -11,26 +11,30 @@ use Rattle.ig_space.specs.Grid.{cell, cell_at, cell_count, chunks_of, hull, numb
 use Rattle.ig_space.specs.HullCells.{hull-cells}
 use Rattle.ig_record.specs.declared.stage.InfoFile.{InfoFile}
 use Rattle.ig_record.specs.declared.stage.Kind.{Kind}
+use Rattle.ig_record.specs.declared.stage.Kind.TheVariants.{Remove}
 use Rattle.ig_record.specs.declared.stage.Stage.{Stage}
-use Rattle.ig_record.specs.Columns.{box_read, chunks_met, inputs_by, inputs_of, output_dirs, removed_dir, scratch_read}
+use Rattle.ig_record.specs.Columns.{box_read, chunks_met, inputs_by, inputs_of, output_dirs, removed_by, removed_dir, scratch_read}
 use Rattle.ig_record.specs.Sound.{is_sound}
 use Rattle.ig_record.specs.SoundStages.{IsSound, IsSound-from, tasks-IsGrid}
 use Rattle.ig_record.specs.Stage.{task_box, task_count, task_grid}
-use Rattle.ig_meaning.specs.Agreeing.{voxel-chunk}
+use Rattle.ig_meaning.specs.Agreeing.{box_read-is, voxel-chunk}
 use Rattle.ig_meaning.specs.ChunkPlaces.{chunk-not_info, is_chunk_of-from, is_chunk_of-is}
 use Rattle.ig_meaning.specs.Jobs.{file_of}
 use Rattle.ig_meaning.specs.Lists.{listed-from}
 use Rattle.ig_meaning.specs.Sequential.{IsElsewhere}
 use Rattle.ig_meaning.specs.Wants.{is_chunk_of}
 use Rattle.ig_rule.specs.DirPaths.{dir_is}
-use Rattle.ig_task.specs.KindFacts.{KindFacts, files-inputs, makes_files, removes}
+use Rattle.ig_task.specs.Facts.{is_scratch}
+use Rattle.ig_task.specs.KindFacts.{KindFacts, makes_files, removes}
 use Rattle.ig_task.specs.Kinds.{kind-facts, stage-laws}
+use Rattle.ig_task.specs.MadeOutputs.{no_scratch}
 use Rattle.ig_task.specs.OwnedPaths.{removal-removes}
+use Rattle.ig_task.specs.ReadPasses.{reads-passes}
 
--- ---- chunks
--- an input is a chunk of the source of a stage that makes something
+-- ---- what they are
+-- an input is a chunk of the source, or a file that an earlier pass makes, of a stage that makes something
 pub record IsInput (s : Stage) (path : List ℕ) : Type 0 where
-  pub is_chunk : is_chunk_of s.source path ≡ true
+  pub from : (is_chunk_of s.source path ≡ true) ⊎ (is_scratch s path ≡ true)
   pub makes : is_some (removed_dir s) ≡ false
 
 -- each chunk that meets a task's box is one of the source
@@ -48,15 +52,30 @@ chunk_met s h k below path among =
 nothing_in : {A : Type 0} (x : A) → Contains [] x → ⊥
 nothing_in x h = absurd (omega (arith, h.1))
 
-input_by : (s : Stage) → IsSound s → KindFacts s → (k : ℕ) → k < task_count s → (path : List ℕ) → Contains (inputs_of s k) path → IsInput s path
-input_by s h (makes_files m) k below path among = record {
-  is_chunk = chunk_met s h k below path (subst (λ (paths : List (List ℕ)). Contains paths path) (files-inputs s m k) among);
-  makes = ap (λ (dir : Option (List ℕ)). is_some dir) m.keeps;
-}
-input_by s h (removes is r) k below path among = absurd (nothing_in path (subst (λ (kind : Kind). Contains (inputs_by kind s k) path) is among))
+met_by : (s : Stage) → IsSound s → (k : ℕ) → k < task_count s → (path : List ℕ) (box : Option Box3) → box_read s.kind s k ≡ box → Contains (chunks_met s.source box) path → is_chunk_of s.source path ≡ true
+met_by s h k below path None is among = absurd (nothing_in path among)
+met_by s h k below path (Some box) is among =
+    chunk_met s h k below path (subst (λ (b : Box3). Contains (chunks_in s.source b) path) (sym (box_read-is s.kind s k box is)) among)
 
+-- The chunks that a task reads are those of its source,
+pub chunk-read : (s : Stage) → is_sound s ≡ true → (k : ℕ) → k < task_count s → (path : List ℕ) → Contains (chunks_met s.source (box_read s.kind s k)) path → is_chunk_of s.source path ≡ true
+chunk-read s sound k below path among = met_by s (IsSound-from s sound) k below path (box_read s.kind s k) refl among
+
+-- a removal reads nothing
+reads-makes : (kind : Kind) (s : Stage) (k : ℕ) (path : List ℕ) → Contains (inputs_by kind s k) path → is_some (removed_by kind s) ≡ false
+reads-makes Remove s k path among = absurd (nothing_in path among)
+reads-makes kind s k path among = refl
+
+-- and its other inputs are files that earlier passes make.
 pub inputs_are : (s : Stage) → is_sound s ≡ true → (k : ℕ) → k < task_count s → (path : List ℕ) → Contains (inputs_of s k) path → IsInput s path
-inputs_are s sound = input_by s (IsSound-from s sound) (kind-facts s sound)
+inputs_are s sound k below path among = record {
+  from = by_list (Contains-append_cases (chunks_met s.source (box_read s.kind s k)) (scratch_read s.kind s k) path among);
+  makes = reads-makes s.kind s k path among;
+}
+  where
+    by_list : Contains (chunks_met s.source (box_read s.kind s k)) path ⊎ Contains (scratch_read s.kind s k) path → (is_chunk_of s.source path ≡ true) ⊎ (is_scratch s path ≡ true)
+    by_list (inl chunk) = inl (chunk-read s sound k below path chunk)
+    by_list (inr scratch) = inr ((reads-passes s sound).reads k below path scratch)
 
 -- ---- how many
 some_read : (s : Stage) → IsSound s → (k : ℕ) → k < task_count s → box_read s.kind s k ≡ Some (task_box s k) → 0 < length (inputs_of s k)
@@ -77,6 +96,14 @@ pub inputs-some : (s : Stage) → is_sound s ≡ true → is_some (removed_dir s
 inputs-some s sound = some_by s (IsSound-from s sound) (kind-facts s sound)
 
 -- ---- elsewhere
+-- no kind that has come builds on earlier passes: each input is a chunk
+input-chunk : (s : Stage) → is_sound s ≡ true → (k : ℕ) → k < task_count s → (path : List ℕ) → Contains (inputs_of s k) path → is_chunk_of s.source path ≡ true
+input-chunk s sound k below path among = by_list (Contains-append_cases (chunks_met s.source (box_read s.kind s k)) (scratch_read s.kind s k) path among)
+  where
+    by_list : Contains (chunks_met s.source (box_read s.kind s k)) path ⊎ Contains (scratch_read s.kind s k) path → is_chunk_of s.source path ≡ true
+    by_list (inl chunk) = chunk-read s sound k below path chunk
+    by_list (inr scratch) = absurd (nothing_in path (subst (λ (paths : List (List ℕ)). Contains paths path) (no_scratch s sound k) scratch))
+
 -- A stage that doesn't write in the directory of its source makes no input of its tasks.
 pub elsewhere-from : (s : Stage) → is_sound s ≡ true → (Contains (output_dirs s) s.source.dir → ⊥) → IsElsewhere s
 elsewhere-from s sound apart =
@@ -88,7 +115,7 @@ elsewhere-from s sound apart =
       outputs = λ j k path j_below k_below made among.
           let input = inputs_are s sound k k_below path among in
           let lies = laws.path_in input.makes path (record { task = j; below = j_below; among = made }) in
-          apart (subst (Contains (output_dirs s)) (dir_is lies.dir s.source.dir path lies.lies (laws.chunk_in path input.is_chunk)) lies.one);
-      info = λ info is k below among. no_info info is (inputs_are s sound k below info.path among).is_chunk;
+          apart (subst (Contains (output_dirs s)) (dir_is lies.dir s.source.dir path lies.lies (laws.chunk_in path (input-chunk s sound k k_below path among))) lies.one);
+      info = λ info is k below among. no_info info is (input-chunk s sound k below info.path among);
       no_chunk = no_info;
     }

@@ -1,6 +1,6 @@
 -- The paths of a stage's tasks are those of all chunks of one place.
-use Rattle.std.specs.Prelude.{◌≡◌, ◌<◌, ℕ, true, false, List, [], ◌∷◌, is_some, Contains, refl}
-use Rattle.std.proofs.Common.{ap, sym, subst, ◌∙◌, append-nil}
+use Rattle.std.specs.Prelude.{◌≡◌, ◌<◌, ℕ, true, false, List, [], ◌∷◌, Some, is_some, Contains, refl}
+use Rattle.std.proofs.Common.{ap, sym, subst, ◌∙◌, append-nil, true≢false}
 use Rattle.ig_space.specs.declared.point.Point.{Point}
 use Rattle.ig_space.specs.declared.place.Place.{Place}
 use Rattle.ig_space.specs.Chunks.{chunks_in}
@@ -87,3 +87,11 @@ removal-owns s h is = record {
 
 pub removal-removes : (s : Stage) → s.kind ≡ Remove → is_some (removed_dir s) ≡ true
 removal-removes s is = ap (λ (kind : Kind). is_some (removed_by kind s)) is
+
+-- what a stage removes is its source
+removed_kind : (s : Stage) (kind : Kind) → is_some (removed_by kind s) ≡ true → removed_by kind s ≡ Some s.source.dir
+removed_kind s Remove some = refl
+removed_kind s kind some = absurd (true≢false (sym some))
+
+pub removes_source : (s : Stage) → is_some (removed_dir s) ≡ true → removed_dir s ≡ Some s.source.dir
+removes_source s = removed_kind s s.kind

@@ -1,5 +1,5 @@
 -- Outputs that are as the stage wants them.
-use Rattle.std.specs.Prelude.{◌≡◌, ℕ, true, false, List, None, Some, is_some, map}
+use Rattle.std.specs.Prelude.{◌≡◌, ℕ, not, true, false, List, None, Some, is_some, map}
 use Rattle.std.specs.List.{All}
 use Rattle.ig_layer.specs.Layer.{Reading}
 use Rattle.ig_record.specs.declared.stage.Stage.{Stage}
@@ -22,3 +22,12 @@ pub record AreWanted (s : Stage) (k : ℕ) (files : Reading) (outputs : List Out
   pub paths : map path_of outputs ≡ paths_of s k
   pub made : is_some (removed_dir s) ≡ false → All (HasWantedText s files) outputs
   pub gone : is_some (removed_dir s) ≡ true → All (λ (output : Output). output.text ≡ None) outputs
+
+-- of a removal nothing is to stand, and else something
+abbrev pub HasText : Stage → Output → Type 0
+HasText s output = is_some output.text ≡ not (is_some (removed_dir s))
+
+-- outputs at each of the task's paths, in order, with what is to stand there
+pub record AreOutputs (s : Stage) (k : ℕ) (outputs : List Output) : Type 0 where
+  pub paths : map path_of outputs ≡ paths_of s k
+  pub texts : All (HasText s) outputs

@@ -20,7 +20,8 @@ use Rattle.ig_worker.specs.declared.turn.Turn.TheVariants.{On}
 use Rattle.ig_worker.specs.Acting.{WasCalled}
 use Rattle.ig_defs.specs.Answers.{Answer, Answered, IsAnswered, Put, Removes, Shifts, WasThere}
 use Rattle.ig_worker.specs.Errors.{worker_error_of}
-use Rattle.ig_worker.specs.Fit.{HasText, IsFinishing}
+use Rattle.ig_task.specs.Wanted.{HasText}
+use Rattle.ig_worker.specs.Fit.{IsFinishing}
 use Rattle.ig_worker.specs.Steps.{answer_of, Made}
 use Rattle.ig_worker.specs.Led.{Goes, Led}
 use Rattle.ig_worker.specs.Moves.{HandsOver, Move, call_by, call_for, moves}

@@ -1,27 +1,16 @@
 -- What comes of a task all of whose inputs were found.
 use Rattle.std.specs.Prelude.{Contains, IsSome}
-use Rattle.std.proofs.Common.{arith, ◌≡◌, ◌<◌, ℕ, suc, Bool, true, false, not, if◌then◌else◌, List, [], ◌∷◌, length, get_or, Option, None, Some, is_some, refl, sym, ap, subst, ◌∙◌, ◌==◌}
+use Rattle.std.proofs.Common.{arith, ◌≡◌, ◌<◌, ℕ, suc, Bool, true, false, if◌then◌else◌, List, [], ◌∷◌, length, get_or, Option, None, Some, is_some, sym, ap, subst, ◌∙◌, ◌==◌}
 use Rattle.std.specs.List.{All}
 use Rattle.std.proofs.lemmas.List.{get_or-map, length-map}
 use Rattle.ig_layer.specs.Layer.{Reading}
 use Rattle.ig_cutout.specs.declared.types.Input.{Input}
-use Rattle.ig_cutout.specs.declared.types.Output.{Output}
 use Rattle.ig_cutout.specs.Inputs.{HoldsAll, path_of, paths_of}
 use Rattle.ig_record.specs.declared.stage.Stage.{Stage}
 use Rattle.ig_record.specs.Sound.{is_sound}
-use Rattle.ig_record.specs.Columns.{inputs_of, removed_dir}
-use Rattle.ig_task.specs.Wanted.{AreWanted}
-use Rattle.ig_worker.specs.Acting.{AreOutputs}
-use Rattle.ig_worker.specs.Fit.{AreStages, HasText, IsFound, IsStage}
+use Rattle.ig_record.specs.Columns.{inputs_of}
+use Rattle.ig_worker.specs.Fit.{AreStages, IsFound, IsStage}
 use Rattle.ig_worker.specs.Stages.{Known, stage_in}
-
--- ---- outputs that are wanted
-texts_by : (s : Stage) (k : ℕ) (files : Reading) (outputs : List Output) → AreWanted s k files outputs → (b : Bool) → is_some (removed_dir s) ≡ b → All (HasText s) outputs
-texts_by s k files outputs w false e = λ i d below. ap (λ (t : Option (List ℕ)). is_some t) (w.made e i d below).text ∙ ap not (sym e)
-texts_by s k files outputs w true e = λ i d below. ap (λ (t : Option (List ℕ)). is_some t) (w.gone e i d below) ∙ ap not (sym e)
-
-pub are_outputs : (s : Stage) (k : ℕ) (files : Reading) (outputs : List Output) → AreWanted s k files outputs → AreOutputs s k outputs
-are_outputs s k files outputs w = record { paths = w.paths; texts = texts_by s k files outputs w (is_some (removed_dir s)) refl }
 
 -- ---- no input is missing
 -- Where an input was found, the file is there.

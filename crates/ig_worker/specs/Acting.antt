@@ -1,6 +1,5 @@
 -- What the parts of a worker's run come to.
-use Rattle.std.specs.Prelude.{◌≡◌, ℕ, Bool, List, [], ◌∷◌, map, Option, is_some, Result, Ok, Err}
-use Rattle.std.specs.List.{All}
+use Rattle.std.specs.Prelude.{◌≡◌, Bool, List, [], ◌∷◌, Option, is_some, Result, Ok, Err}
 use Rattle.ig_defs.specs.declared.error.StoreError.{StoreError}
 use Rattle.ig_defs.specs.declared.queue_name.QueueName.{QueueName}
 use Rattle.ig_defs.specs.declared.step.Act.{Act}
@@ -9,14 +8,10 @@ use Rattle.ig_defs.specs.Log.{Log}
 use Rattle.ig_defs.specs.QueueNames.{task_of}
 use Rattle.ig_defs.specs.Answers.{Answer, Answered, Call, IsAnswered, Shifts, WasThere}
 use Rattle.ig_cutout.specs.declared.types.Output.{Output}
-use Rattle.ig_record.specs.declared.stage.Stage.{Stage}
-use Rattle.ig_record.specs.Columns.{paths_of}
-use Rattle.ig_task.specs.Wanted.{path_of}
 use Rattle.ig_worker.specs.declared.notes.Notes.{Notes}
 use Rattle.ig_worker.specs.declared.turn.Line.TheVariants as line
 use Rattle.ig_worker.specs.declared.turn.Why.{Why}
 use Rattle.ig_worker.specs.declared.turn.Why.TheVariants as why
-use Rattle.ig_worker.specs.Fit.{HasText}
 use Rattle.ig_worker.specs.Moves.{Move, Makes, Outcome, Refuses, by_presence, dead_path, leased, moves, queued_path, said_if}
 use Rattle.ig_worker.specs.Places.{leased_or_gone, next_try, stands}
 
@@ -45,8 +40,3 @@ BuriesRefused notes name cause names m = (there : Bool) × (m ≡ moves (Shifts 
 abbrev pub outcome_of : Result (List Output) Why → Outcome
 outcome_of (Ok outputs) = Makes outputs
 outcome_of (Err cause) = Refuses cause
-
--- outputs at each of the task's paths, with what is to stand there
-pub record AreOutputs (s : Stage) (k : ℕ) (outputs : List Output) : Type 0 where
-  pub paths : map path_of outputs ≡ paths_of s k
-  pub texts : All (HasText s) outputs

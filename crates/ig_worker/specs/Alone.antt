@@ -1,12 +1,10 @@
 -- A worker by itself finishes all tasks of its queue, where nothing keeps it from that.
-use Rattle.std.specs.Prelude.{◌≡◌, ◌≤◌, ◌<◌, ◌^◌, ◌==◌, ◌+◌, ℕ, true, false, if◌then◌else◌, List, [], ◌∷◌, length, All, None, Some, refl}
+use Rattle.std.specs.Prelude.{◌≡◌, ◌≤◌, ◌<◌, ◌^◌, ◌==◌, ◌+◌, ℕ, false, if◌then◌else◌, List, [], ◌∷◌, length, None, Some, refl}
 use Rattle.std.proofs.Common.{arith, inl, ap, sym, subst, ◌∙◌}
 use Rattle.std.proofs.lemmas.Bool.{ne_eqb}
 use Rattle.std.proofs.lemmas.Option.{none-some, same_Some}
-use Rattle.ig_defs.specs.declared.step.Step.{Step}
 use Rattle.ig_defs.specs.Files.{Files}
 use Rattle.ig_defs.specs.Log.{Log, files_of}
-use Rattle.ig_defs.specs.Own.{steps_since}
 use Rattle.ig_defs.specs.TurnLaws.{prefix_of, prefix_then}
 use Rattle.ig_defs.specs.Turns.{Idled, IsPrefix}
 use Rattle.ig_rule.specs.Prefixes.{legal_sound}
@@ -14,14 +12,13 @@ use Rattle.ig_rule.specs.declared.role.Role.{Role}
 use Rattle.ig_rule.specs.Sound.{Legal, Sound}
 use Rattle.ig_task.specs.Facts.{stage_reader}
 use Rattle.ig_task.specs.Kinds.{kinds}
-use Rattle.ig_worker.specs.declared.error.WorkerError.{WorkerError}
 use Rattle.ig_worker.specs.declared.notes.Notes.{Notes}
 use Rattle.ig_worker.specs.declared.phase.Phase.{Phase}
 use Rattle.ig_worker.specs.declared.phase.Phase.TheVariants.{Starting, Learning, Asking, Trying, Fetching, Running, Finishing, Closing, ListingDead, ListingDone, Telling, Over, Broken}
 use Rattle.ig_worker.specs.declared.plan.Plan.{Plan}
 use Rattle.ig_worker.specs.declared.turn.End.{End}
 use Rattle.ig_worker.specs.declared.turn.End.TheVariants.{Finished, Spent}
-use Rattle.ig_worker.specs.AloneCalls.{AreOwn, call_alone, parts_own}
+use Rattle.ig_worker.specs.AloneCalls.{call_alone, parts_own}
 use Rattle.ig_worker.specs.AloneDone.{done_goes}
 use Rattle.ig_worker.specs.AloneGoing.{GoesOn, GoesOnAt, StaysGoing}
 use Rattle.ig_worker.specs.AloneJobs.{run_in_order}
@@ -29,7 +26,8 @@ use Rattle.ig_worker.specs.AloneListings.{closing_goes, dead_goes, learning_goes
 use Rattle.ig_worker.specs.AloneRounds.{asking_goes}
 use Rattle.ig_worker.specs.AloneTasks.{fetching_goes, finishing_goes, running_goes}
 use Rattle.ig_worker.specs.AloneTries.{trying_goes}
-use Rattle.ig_worker.specs.CanFinish.{CanFinish, stage_at}
+pub use Rattle.ig_worker.specs.CanFinish.{IsOnItsWay}
+use Rattle.ig_worker.specs.CanFinish.{AreOwn, CanFinish, stage_at}
 use Rattle.ig_worker.specs.Course.{Course, end_at, fresh}
 use Rattle.ig_worker.specs.EndsCourse.{course_later, course_prefix}
 use Rattle.ig_worker.specs.EndsPlaces.{call_stays, course_keeps, fresh_stays}
@@ -96,11 +94,6 @@ along role plan at first from s old (m ∷ ms) to next last new later small stay
     (goes_on s at from c.0 first (files_of old) (files_of c.1) m later stays.place.fit sound stays.known alone goes) c.4 grows parts.1
 
 -- ---- the end
--- Where the worker ends it has finished, and it stops at no error of its own.
-pub record IsOnItsWay (s : State) : Type 0 where
-  pub finishes : (e : End) → end_at s.notes s.phase ≡ Some e → (tasks : ℕ) × (e ≡ Finished tasks)
-  pub never_broken : (error : WorkerError) → s.phase ≡ Broken error → ⊥
-
 not_spent : (tried turns long : ℕ) → tried + long ≤ turns → 0 < long → tried ≡ turns → ⊥
 not_spent tried turns long within some same = absurd (omega (arith, within, some, same))
 
@@ -124,7 +117,7 @@ ends_finished at first now notes (Broken error) fit goes e is = absurd goes
 
 -- Where nothing keeps it from that, the log is legal, and nobody else takes a step, a worker that ends has finished.
 pub alone_finishes : (role : Role) (plan : Plan) (from : ℕ) (old : Log) (ms : List Move) (to : ℕ) (next : State) (last new : Log) → HasLimits plan → to < 10 ^ 10 → Legal stage_reader plan.queue old
-    → CanFinish plan from (files_of old) → Course (AllowsFor role plan) from (fresh plan) old ms to next last → Idled (AllowsFor role plan) last new → All (λ (s : Step). s.mine ≡ true) (steps_since old new) → IsOnItsWay next
+    → CanFinish plan from (files_of old) → Course (AllowsFor role plan) from (fresh plan) old ms to next last → Idled (AllowsFor role plan) last new → AreOwn old new → IsOnItsWay next
 alone_finishes role plan from old ms to next last new limits small legal can c idled own =
     let first = files_of old in
     let goes = along role plan from first from (fresh plan) old ms to next last new (omega arith) small (fresh_stays plan from old limits legal) (fresh_goes plan from first can) c

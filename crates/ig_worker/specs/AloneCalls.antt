@@ -6,7 +6,6 @@ use Rattle.ig_defs.specs.declared.step.Act.{Act}
 use Rattle.ig_defs.specs.declared.step.Step.{Step}
 use Rattle.ig_defs.specs.Files.{Files}
 use Rattle.ig_defs.specs.Log.{Log, ByOthers, after, files_of, own, replay}
-use Rattle.ig_defs.specs.Own.{steps_since}
 use Rattle.ig_defs.specs.TurnLaws.{files_then, prefix_of, prefix_then, since_is}
 use Rattle.ig_defs.specs.Turns.{IsPrefix}
 use Rattle.ig_rule.specs.Rule.{Allowed}
@@ -14,6 +13,7 @@ use Rattle.ig_rule.specs.declared.role.Role.{Role}
 use Rattle.ig_task.specs.Facts.{stage_reader}
 use Rattle.ig_worker.specs.declared.plan.Plan.{Plan}
 use Rattle.ig_worker.specs.AloneGoing.{CalledAlone}
+use Rattle.ig_worker.specs.CanFinish.{AreOwn, IsOwn}
 use Rattle.ig_defs.specs.Answers.{Takes}
 use Rattle.ig_worker.specs.Keeps.{move_allowed}
 use Rattle.ig_worker.specs.Moves.{Move}
@@ -22,13 +22,6 @@ use Rattle.ig_worker.specs.Standing.{AllowsFor, Stays}
 use Rattle.ig_worker.specs.Steps.{Called}
 
 -- ---- own steps
--- each step that the log grew by is the worker's own
-abbrev pub IsOwn : Step → Type 0
-IsOwn step = step.mine ≡ true
-
-abbrev pub AreOwn : Log → Log → Type 0
-AreOwn old new = All IsOwn (steps_since old new)
-
 first_own : (xs ys : List Step) → All IsOwn (xs ++ ys) → All IsOwn xs
 first_own xs ys all = All-weaker (Contains xs) IsOwn (λ x among. All-contains IsOwn (xs ++ ys) x all (Contains-append_left xs ys x among)) xs (All-contains_itself xs)
 

@@ -1,5 +1,5 @@
 -- A worker by itself has finished where it lists the done tasks: none is missing.
-use Rattle.std.specs.Prelude.{◌≡◌, ◌≢◌, ◌⊎◌, ◌≤◌, ◌<◌, ℕ, zero, suc, true, false, List, [], ◌∷◌, length, map, Option, None, Some, IsSome, is_some, Contains, codes, refl}
+use Rattle.std.specs.Prelude.{◌≡◌, ◌≢◌, ◌⊎◌, ◌≤◌, ◌<◌, ℕ, zero, suc, true, false, List, [], ◌∷◌, length, map, None, Some, IsSome, is_some, Contains, codes, refl}
 use Rattle.std.proofs.Common.{arith, inl, inr, ap, sym, subst, true≢false, ◌∙◌}
 use Rattle.std.proofs.lemmas.Bool.{cases_Bool, cases_order}
 use Rattle.ig_space.specs.Path.{is_path, joined}
@@ -25,17 +25,13 @@ use Rattle.ig_worker.specs.AloneListings.{arrives, listed}
 use Rattle.ig_worker.specs.CanFinish.{IsAhead}
 use Rattle.ig_worker.specs.EndsNames.{among_listed}
 use Rattle.ig_worker.specs.EndsWaiting.{done_stands}
-use Rattle.ig_worker.specs.KeepsLists.{first_in, later_in, map_in}
+use Rattle.ig_worker.specs.KeepsLists.{first_in, later_in, map_in, none_of}
 use Rattle.ig_worker.specs.Knows.{kept_of}
 use Rattle.ig_worker.specs.Moves.{Move}
 use Rattle.ig_worker.specs.Places.{counted, end_by, stands}
 use Rattle.ig_worker.specs.Stages.{Known, all_tasks, all_unlisted, is_listed, one_unless, unlisted}
 
 -- ---- stages with no task ahead
-none_by : (o : Option (List ℕ)) → (IsSome o → ⊥) → o ≡ None
-none_by None no_way = refl
-none_by (Some bytes) no_way = absurd (no_way refl)
-
 module _ (q : List ℕ) (files : Files) (sound : Sound stage_reader q files) (sealed : (n : ℕ) (t : Facts) → stages_in stage_reader q files n ≡ Some t → Sealed (queue_of q files) n)
     (no_letters : (id : TaskId) → queue_of q files (Dead id) ≡ None) (none : (name : QueueName) → IsAhead q files name → ⊥) where
   abbrev records : Records
@@ -45,7 +41,7 @@ module _ (q : List ℕ) (files : Files) (sound : Sound stage_reader q files) (se
   drained : (n : ℕ) (t : Facts) → records n ≡ Some t → Clear records n t → Drained (queue_of q files) n
   drained n t is clear = record {
     sealed = sealed n t is;
-    none_queued = λ name of. none_by (queue_of q files (Queued name)) (λ there.
+    none_queued = λ name of. none_of (queue_of q files (Queued name)) (λ there.
         none name (record { there = there; stage = t; is = ap records of ∙ is; clear = subst (λ k. Clear records k t) (sym of) clear }));
     none_dead = λ id of. no_letters id;
   }

@@ -1,35 +1,38 @@
 -- A worker by itself goes on where it lists the stages or the dead letters, and where it reads a record.
-use Rattle.std.specs.Prelude.{◌≡◌, ◌⊎◌, ℕ, List, [], ◌∷◌, Option, None, Some, Contains, codes, option_and_then, option_map, refl}
+use Rattle.std.specs.Prelude.{◌≡◌, ◌⊎◌, ◌≤◌, ℕ, true, List, [], ◌∷◌, length, Option, None, Some, Contains, codes, option_and_then, refl}
 use Rattle.std.proofs.Common.{inl, inr, ap, sym, subst, true≢false, ◌∙◌}
-use Rattle.std.proofs.lemmas.Option.{none-some}
-use Rattle.ig_space.specs.Path.{joined}
+use Rattle.ig_space.specs.Path.{is_path, joined}
 use Rattle.ig_space.specs.declared.task_id.TaskId.{TaskId}
 use Rattle.ig_defs.specs.declared.queue_name.QueueName.{QueueName}
 use Rattle.ig_defs.specs.Calls.{ListsNames}
 use Rattle.ig_defs.specs.Files.{Files, file_at}
 use Rattle.ig_defs.specs.Log.{after}
+use Rattle.ig_defs.specs.QueueNames.{stage_file, task_file}
 use Rattle.ig_meaning.specs.QueueMaking.{record_path, stages_dir}
+use Rattle.ig_queue.specs.FilesAt.{dead_path_is}
 use Rattle.ig_record.specs.declared.stage.Stage.{Stage}
 use Rattle.ig_record.specs.Reading.{record_in}
-use Rattle.ig_rule.specs.Facts.{Facts}
 use Rattle.ig_rule.specs.QueueFiles.{Dead, Record, queue_of}
 use Rattle.ig_rule.specs.QueueSteps.{holds}
+use Rattle.ig_rule.specs.Sound.{Sound}
 use Rattle.ig_rule.specs.SoundFiles.{none_there}
 use Rattle.ig_rule.specs.SoundNames.{has_record}
-use Rattle.ig_rule.specs.Stages.{stages_in}
-use Rattle.ig_task.specs.Facts.{facts_of, stage_reader}
+use Rattle.ig_rule.specs.declared.role.Role.TheVariants.{Worker}
+use Rattle.ig_task.specs.Facts.{stage_reader}
 use Rattle.ig_worker.specs.declared.notes.Notes.{Notes}
 use Rattle.ig_worker.specs.declared.phase.Phase.TheVariants.{Closing, Learning, ListingDead, ListingDone, Starting}
 use Rattle.ig_worker.specs.declared.phase.Then.{Then}
 use Rattle.ig_worker.specs.declared.phase.Then.TheVariants.{Ask, Count, Try}
 use Rattle.ig_worker.specs.declared.turn.Line.{Line}
 use Rattle.ig_worker.specs.AloneGoing.{AllKnown, AreAhead, CalledAlone, GoesOn, GoesOnAt, IsKept, IsLearning, StaysGoing}
-use Rattle.ig_worker.specs.AloneNames.{is_empty, listing_learns, stands_dead, unknown_from}
 use Rattle.ig_defs.specs.Answers.{Found, Lists, Names, Reads, Takes}
 use Rattle.ig_worker.specs.CanFinish.{stage_at}
 use Rattle.ig_worker.specs.EndsClosing.{learnt_all_known, learnt_more}
+use Rattle.ig_worker.specs.EndsListed.{record_tells, was_listed}
 use Rattle.ig_worker.specs.EndsNames.{shown_from}
-use Rattle.ig_worker.specs.KeepsLists.{first_in, later_in, with_stage-from}
+use Rattle.ig_worker.specs.EndsRecords.{record_of}
+use Rattle.ig_worker.specs.KeepsListing.{file_there, listed_or_known, record_stands, stage_named-is}
+use Rattle.ig_worker.specs.KeepsLists.{first_in, is_empty, later_in, with_stage-from}
 use Rattle.ig_worker.specs.Moves.{Move, moves}
 use Rattle.ig_worker.specs.Places.{State, learning, learnt, learnt_by, noted, stands}
 use Rattle.ig_worker.specs.Stages.{Known, tasks_listed, unknown_listed, with_stage}
@@ -63,6 +66,16 @@ was_found q from to s old new m path found next said c e =
     record { is = takes.1; same = c.files ∙ ap (after old) takes.0 }
 
 -- ---- the stages are listed
+-- After a listing each stage that is recorded is known, or is to be read, as are no others.
+listing_learns : (q : List ℕ) → is_path q ≡ true → length q ≤ 100 → (files : Files) (known : Known) (given : List (List ℕ)) → Sound stage_reader q files → ListsNames (stages_dir q) given files []
+    → IsLearning q files known (unknown_listed known given)
+listing_learns q path short files known given sound names = record {
+  all = λ n t is.
+      let h = holds q files (Record n) (has_record stage_reader (queue_of q files) n t is) in
+      listed_or_known known given (stage_file n) n (stage_named-is n h.fit) (names.each (stage_file n) (record_stands Worker q path short files n t is));
+  only = λ n among. let h = was_listed known given n among in record_tells q files sound n h.fits (names.only (stage_file n) h.among);
+}
+
 asks_on : (at : ℕ) (first now : Files) (notes : Notes) (unread : List ℕ) → IsLearning notes.plan.queue now notes.known unread → (names : List QueueName) × AreAhead at first now notes names
     → GoesOnAt at first now notes (learning notes.known unread Ask)
 asks_on at first now notes [] learns ahead = (λ n t is. learnt_all_known notes.known n (learns.all n t is), ahead)
@@ -80,25 +93,6 @@ starting_goes notes at from to first old new m later fit sound knows c goes =
     (record { kept = goes.kept; goes = asks_on at first old notes unread (listing_learns q fit.notes.plan.path fit.notes.plan.short old notes.known given sound l.names) goes.goes })
 
 -- ---- a record is read
--- The record of stage n can be read.
-record IsReadable (q : List ℕ) (files : Files) (n : ℕ) : Type 0 where
-  text : List ℕ
-  stage : Stage
-  stands : file_at files (record_path q n) ≡ Some text
-  reads : record_in n text ≡ Some stage
-  at : stage_at q files n ≡ Some stage
-
-readable_by : (q : List ℕ) (files : Files) (n : ℕ) (t : Facts) (text : List ℕ) (o : Option Stage) → record_in n text ≡ o → option_map (facts_of n) o ≡ Some t → file_at files (record_path q n) ≡ Some text
-    → queue_of q files (Record n) ≡ Some text → IsReadable q files n
-readable_by q files n t text None e is there holds_it = absurd (none-some t is)
-readable_by q files n t text (Some s) e is there holds_it = record { text = text; stage = s; stands = there; reads = e; at = ap (option_and_then (record_in n)) holds_it ∙ e }
-
-readable : (q : List ℕ) (files : Files) (n : ℕ) (t : Facts) → stages_in stage_reader q files n ≡ Some t → IsReadable q files n
-unfolding stage_reader
-readable q files n t is =
-    let h = holds q files (Record n) (has_record stage_reader (queue_of q files) n t is) in
-    readable_by q files n t h.bytes (record_in n h.bytes) refl (ap (option_and_then (stage_reader n)) (sym h.is) ∙ is) h.stands h.is
-
 -- one stage more is known
 learns_one : (q : List ℕ) (now : Files) (known : Known) (n : ℕ) (unread : List ℕ) (s : Stage) → IsLearning q now known (n ∷ unread) → IsLearning q now (with_stage n s known) unread
 learns_one q now known n unread s h = record {
@@ -125,10 +119,10 @@ learns_on at from to first old new notes n unread m c goes =
     let found = c.leads.0 in
     let f = was_found q from to (stands notes (Learning (n ∷ unread) Ask)) old new m (record_path q n) found (learnt notes n unread Ask found) [] c c.leads.1 in
     let recorded = goes.goes.0.only n (first_in n unread) in
-    let r = readable q old n recorded.0 recorded.1 in
+    let r = record_of q old n recorded.0 recorded.1 in
     let more = noted notes n r.stage in
     let next = stands more (learning more.known unread Ask) in
-    let there : m.next ≡ next = ap (λ (v : Move). v.next) c.leads.1 ∙ ap (learnt notes n unread Ask) (f.is ∙ r.stands) ∙ ap (learnt_by notes n unread Ask r.text) r.reads in
+    let there : m.next ≡ next = ap (λ (v : Move). v.next) c.leads.1 ∙ ap (learnt notes n unread Ask) (f.is ∙ r.stands_there) ∙ ap (learnt_by notes n unread Ask r.text) r.reads in
     let ahead = goes.goes.1 in
     arrives at first old new m next there f.same
     (record {
@@ -147,7 +141,7 @@ learning_goes notes unread Count at from to first old new m later fit sound know
 none_unread : (q : List ℕ) (now : Files) (known : Known) (given : List (List ℕ)) → IsLearning q now known (unknown_listed known given) → AllKnown q now known → unknown_listed known given ≡ []
 none_unread q now known given learns all = is_empty (unknown_listed known given) (λ n among.
     let recorded = learns.only n among in
-    true≢false (sym (all n recorded.0 recorded.1) ∙ (unknown_from known given n among).unknown))
+    true≢false (sym (all n recorded.0 recorded.1) ∙ (was_listed known given n among).unknown))
 
 -- A worker at the close goes on.
 pub closing_goes : (notes : Notes) → StaysGoing (stands notes Closing)
@@ -164,7 +158,8 @@ closing_goes notes at from to first old new m later fit sound knows c goes =
 none_dead : (q : List ℕ) (files : Files) (given : List (List ℕ)) → ListsNames (joined q (codes "dead")) given files [] → ((id : TaskId) → queue_of q files (Dead id) ≡ None) → tasks_listed given ≡ []
 none_dead q files given names none = is_empty (tasks_listed given) (λ id among.
     let shown = shown_from given id among in
-    none_there (queue_of q files (Dead id)) (stands_dead q files id shown.fits (names.only _ shown.given)) (none id))
+    none_there (queue_of q files (Dead id))
+    (file_there q files (Dead id) (joined q (codes "dead")) (task_file id) (dead_path_is q (task_file id) id refl) shown.fits (names.only (task_file id) shown.given)) (none id))
 
 -- A worker that lists the dead letters goes on: there are none.
 pub dead_goes : (notes : Notes) → StaysGoing (stands notes ListingDead)

@@ -1,5 +1,5 @@
 -- A worker by itself goes on where it lists the queue: the names that it tries are those ahead.
-use Rattle.std.specs.Prelude.{◌≡◌, ◌⊎◌, ◌≤◌, ◌<◌, ◌||◌, ℕ, true, false, if◌then◌else◌, List, [], ◌∷◌, map, Option, None, Some, Contains, IsSome, is_some, codes, refl}
+use Rattle.std.specs.Prelude.{◌≡◌, ◌⊎◌, ◌≤◌, ◌<◌, ◌||◌, ℕ, true, false, if◌then◌else◌, List, [], ◌∷◌, length, map, Option, None, Some, Contains, IsSome, is_some, codes, refl}
 use Rattle.std.proofs.Common.{arith, inl, inr, ap, sym, subst, true≢false, ◌∙◌}
 use Rattle.std.proofs.lemmas.Bool.{cases_Bool, ltb-true}
 use Rattle.std.proofs.lemmas.List.Elements.{All-contains}
@@ -10,7 +10,9 @@ use Rattle.ig_defs.specs.declared.queue_name.QueueName.{QueueName}
 use Rattle.ig_defs.specs.Calls.{ListsNames}
 use Rattle.ig_defs.specs.Files.{Files}
 use Rattle.ig_defs.specs.QueueNames.{queue_file, task_of}
+use Rattle.ig_defs.specs.QueueNameLaws.{is_segment-queue_file, length-queue_file}
 use Rattle.ig_queue.specs.Candidates.{AreCandidates, IsCandidate}
+use Rattle.ig_queue.specs.FilesAt.{queued_path_is}
 use Rattle.ig_record.specs.declared.stage.Stage.{Stage}
 use Rattle.ig_record.specs.Stage.{task_count}
 use Rattle.ig_rule.specs.Facts.{Facts}
@@ -25,14 +27,13 @@ use Rattle.ig_worker.specs.declared.phase.Phase.TheVariants.{Asking}
 use Rattle.ig_worker.specs.declared.phase.Then.TheVariants.{Try}
 use Rattle.ig_worker.specs.AloneGoing.{AllKnown, AreAhead, GoesOnAt, StaysGoing}
 use Rattle.ig_worker.specs.AloneListings.{arrives, listed}
-use Rattle.ig_worker.specs.AloneNames.{queued_stands, stands_queued}
 use Rattle.ig_worker.specs.AloneOrder.{passes_from, passes_in, same_names}
 use Rattle.ig_worker.specs.CanFinish.{IsAhead}
 use Rattle.ig_worker.specs.EndsFinished.{IsNoted}
 use Rattle.ig_worker.specs.EndsOpen.{closed_not_clear}
 use Rattle.ig_worker.specs.KeepsKnown.{KnowsAll, all_known}
 use Rattle.ig_worker.specs.KeepsLeases.{open_task}
-use Rattle.ig_worker.specs.KeepsListing.{known_facts}
+use Rattle.ig_worker.specs.KeepsListing.{file_stands, file_there, known_facts}
 use Rattle.ig_worker.specs.KeepsLists.{first_in, later_in, none_in}
 use Rattle.ig_worker.specs.Knows.{Knows, kept_of}
 use Rattle.ig_worker.specs.Moves.{Move}
@@ -107,7 +108,7 @@ module _ (notes : Notes) (files : Files) (sound : Sound stage_reader notes.plan.
     listed_there : (name : QueueName) → Contains names name → IsSome (queue_of notes.plan.queue files (Queued name))
     listed_there name among =
         let h = All-contains (IsCandidate given now) names name are.only among in
-        stands_queued notes.plan.queue files name h.fits (lists.only (queue_file name) h.listed)
+        file_there notes.plan.queue files (Queued name) (joined notes.plan.queue (codes "queue")) (queue_file name) (queued_path_is notes.plan.queue (queue_file name) name refl) h.fits (lists.only (queue_file name) h.listed)
 
     none_unknown : unknown_named notes.known names ≡ []
     none_unknown = known_after notes.known None names (λ name among. queued_known name (listed_there name among))
@@ -122,7 +123,9 @@ module _ (notes : Notes) (files : Files) (sound : Sound stage_reader notes.plan.
         let there = (are_ahead.only name among).there in
         let h = holds notes.plan.queue files (Queued name) there in
         let due = All-contains (λ (x : QueueName). x.visible ≤ at) ahead name are_ahead.left.due among in
-        let stands = queued_stands notes.plan.queue limits.path limits.short files name there in
+        let long : length (codes "queue") ≡ 5 = refl in
+        let stands = file_stands notes.plan.queue limits.path limits.short files (Queued name) (codes "queue") (queue_file name) (queued_path_is notes.plan.queue (queue_file name) name refl) refl (omega (arith, long))
+        (is_segment-queue_file name) (omega (arith, length-queue_file name)) there in
         are.each name (record { fits = h.fit; listed = lists.each (queue_file name) stands; due = omega (arith, due, before) })
 
     open_is : (first : Files) (ahead : List QueueName) → at ≤ now → AreAhead at first files notes ahead → open_names notes.known names ≡ ahead

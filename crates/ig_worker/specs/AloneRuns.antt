@@ -4,7 +4,7 @@ use Rattle.std.specs.Cmp.Lexicographic.{nat_list_cmp_total}
 use Rattle.std.specs.FinMap as maps
 use Rattle.std.proofs.Common.{inl, inr, ap, sym, subst, ◌∙◌}
 use Rattle.std.proofs.lemmas.Bool.{cases_Bool}
-use Rattle.std.proofs.lemmas.List.Elements.{All-contains}
+use Rattle.std.proofs.lemmas.List.Elements.{All-contains, Contains-append_right}
 use Rattle.std.proofs.lemmas.Option.{same_Some}
 use Rattle.ig_defs.specs.declared.queue_name.QueueName.{QueueName}
 use Rattle.ig_defs.specs.Files.{Files, file_at}
@@ -13,22 +13,26 @@ use Rattle.ig_defs.specs.QueueNames.{task_of}
 use Rattle.ig_cutout.specs.declared.types.Output.{Output}
 use Rattle.ig_record.specs.declared.stage.Stage.{Stage}
 use Rattle.ig_record.specs.Sound.{is_sound}
-use Rattle.ig_record.specs.Columns.{inputs_of, paths_of, removed_dir}
+use Rattle.ig_record.specs.Columns.{box_read, chunks_met, inputs_of, paths_of, removed_dir, scratch_read}
 use Rattle.ig_record.specs.Stage.{task_count}
 use Rattle.ig_meaning.specs.Agreeing.{made-fine}
 use Rattle.ig_meaning.specs.Inputs.{input-stands}
 use Rattle.ig_meaning.specs.Jobs.{with_outputs, with_text}
+use Rattle.ig_meaning.specs.Sequential.{HasScratch}
 use Rattle.ig_meaning.specs.Task.{task_outputs}
 use Rattle.ig_meaning.specs.Wants.{is_chunk_of}
 use Rattle.ig_rule.specs.Facts.{Facts, KeepsChunks, StageLaws}
 use Rattle.ig_rule.specs.Keeps.{keep_laws}
 use Rattle.ig_rule.specs.QueueFiles.{Done, IsApartFrom, queue_of}
 use Rattle.ig_rule.specs.QueueSteps.{holds}
+use Rattle.ig_rule.specs.ScratchWanted.{scratch_apart, scratch_wanted}
 use Rattle.ig_rule.specs.Sound.{Sound}
 use Rattle.ig_rule.specs.Stages.{Clear, Stands, stages_in}
-use Rattle.ig_task.specs.Facts.{facts_of, stage_reader}
+use Rattle.ig_task.specs.Facts.{facts_of, is_scratch, stage_reader}
+use Rattle.ig_task.specs.GivenPasses.{held-are_wanted}
 use Rattle.ig_task.specs.Kinds.{kinds}
-use Rattle.ig_task.specs.MadeOutputs.{outputs-are_wanted}
+use Rattle.ig_task.specs.OwnInputs.{inputs_are}
+use Rattle.ig_task.specs.ReadPasses.{reads-passes}
 use Rattle.ig_task.specs.Wanted.{AreWanted, HasWantedText, path_of}
 use Rattle.ig_worker.specs.declared.notes.Notes.{Notes}
 use Rattle.ig_worker.specs.declared.phase.Phase.{Phase}
@@ -37,8 +41,7 @@ use Rattle.ig_worker.specs.AloneGoing.{Agree, AllKnown, CanRun, IsKept, IsRun, R
 use Rattle.ig_worker.specs.AloneRounds.{noted_of}
 use Rattle.ig_worker.specs.CanFinish.{stage_at}
 use Rattle.ig_worker.specs.Fit.{AreFitNotes}
-use Rattle.ig_task.specs.OwnInputs.{inputs_are}
-use Rattle.ig_worker.specs.KeepsLists.{first_in, later_in, map_in, stage_in-among}
+use Rattle.ig_worker.specs.KeepsLists.{first_in, later_in, map_in, some_of, stage_in-among}
 use Rattle.ig_worker.specs.KeepsTasks.{known_sound}
 use Rattle.ig_worker.specs.Knows.{Knows}
 use Rattle.ig_worker.specs.Places.{stands}
@@ -72,9 +75,16 @@ module _ (notes : Notes) (first old : Files) (name : QueueName) (sound : Sound s
   laws : StageLaws (facts_of name.stage s)
   laws = keep_laws stage_reader kinds (queue_of notes.plan.queue old) name.stage (facts_of name.stage s) is
 
-  -- Its chunks and its paths are no queue file's.
-  pub chunk_is_apart : (path : List ℕ) → is_chunk_of s.source path ≡ true → IsApartFrom notes.plan.queue path
+  -- Its chunks, its inputs and its paths are no queue file's.
+  chunk_is_apart : (path : List ℕ) → is_chunk_of s.source path ≡ true → IsApartFrom notes.plan.queue path
   chunk_is_apart path chunk = chunk_apart notes.plan.queue (facts_of name.stage s) path laws (sound.stages.outside name.stage (facts_of name.stage s) is) chunk
+
+  pub input_is_apart : is_sound s ≡ true → name.task < task_count s → (path : List ℕ) → Contains (inputs_of s name.task) path → IsApartFrom notes.plan.queue path
+  input_is_apart sound_stage below path among = by_sort (inputs_are s sound_stage name.task below path among).from
+    where
+      by_sort : (is_chunk_of s.source path ≡ true) ⊎ (is_scratch s path ≡ true) → IsApartFrom notes.plan.queue path
+      by_sort (inl chunk) = chunk_is_apart path chunk
+      by_sort (inr pass) = scratch_apart stage_reader kinds notes.plan.queue old name.stage (facts_of name.stage s) sound is path pass
 
   pub path_is_apart : (path : List ℕ) → name.task < task_count s → Contains (paths_of s name.task) path → IsApartFrom notes.plan.queue path
   path_is_apart path below among =
@@ -84,13 +94,22 @@ module _ (notes : Notes) (first old : Files) (name : QueueName) (sound : Sound s
   pub input_there : (files : Files) (run : Runs (stage_at notes.plan.queue first) files name) → Agree notes.plan.queue old files → is_sound s ≡ true → name.task < task_count s
       → (path : List ℕ) → Contains (inputs_of s name.task) path → IsSome (file_at old path)
   input_there files run agree sound_stage below path among =
-      let apart = chunk_is_apart path (inputs_are s sound_stage name.task below path among).is_chunk in
-      subst (λ (o : Option (List ℕ)). IsSome o) (sym (agree path apart)) (input-stands s name.task (file_at files) (made-fine s name.task (file_at files) run.outputs (makes_of files run)).0 path among)
+      subst (λ (o : Option (List ℕ)). IsSome o) (sym (agree path (input_is_apart sound_stage below path among)))
+      (input-stands s name.task (file_at files) (made-fine s name.task (file_at files) run.outputs (makes_of files run)).0 path among)
 
   -- ---- where it is done
   module _ (files : Files) (agree : Agree notes.plan.queue old files) (below : name.task < task_count s) (there : Stands old (facts_of name.stage s) name.task) where
     same_chunks : KeepsChunks (facts_of name.stage s) (file_at old) (file_at files)
     same_chunks = record { kept = λ path bytes chunk held. sym (agree path (chunk_is_apart path chunk)) ∙ held }
+
+    -- earlier passes want what is there of them
+    has_passes : (run : Runs (stage_at notes.plan.queue first) files name) → is_sound s ≡ true → Clear (stages_in stage_reader notes.plan.queue old) name.stage (facts_of name.stage s) → HasScratch s name.task (file_at files)
+    has_passes run sound_stage clear path among =
+        let given = Contains-append_right (chunks_met s.source (box_read s.kind s name.task)) (scratch_read s.kind s name.task) path among in
+        let pass = (reads-passes s sound_stage).reads name.task below path among in
+        let found = some_of (file_at old path) (input_there files run agree sound_stage below path given) in
+        let wanted = scratch_wanted stage_reader kinds notes.plan.queue old name.stage (facts_of name.stage s) sound is (inputs_are s sound_stage name.task below path given).makes clear path found.0 pass found.1 in
+        sym (agree path (input_is_apart sound_stage below path given)) ∙ found.1 ∙ sym (laws.scratch_stays (file_at old) (file_at files) path found.0 same_chunks wanted)
 
     made_there : (output : Output) → Contains (paths_of s name.task) output.path → is_some (removed_dir s) ≡ false → HasWantedText s (file_at files) output → file_at files output.path ≡ output.text
     made_there output among makes wanted =
@@ -113,10 +132,10 @@ module _ (notes : Notes) (first old : Files) (name : QueueName) (sound : Sound s
         by_sort (inr makes) = made_there output listed makes (All-contains (HasWantedText s (file_at files)) outputs output (wanted.made makes) among)
 
     -- What it makes over files that agree changes none of them.
-    pub run_stays : (run : Runs (stage_at notes.plan.queue first) files name) → is_sound s ≡ true → with_outputs files run.outputs ≡ files
-    run_stays run sound_stage =
-        let makes = makes_of files run in
-        outputs_stay files run.outputs (output_there run.outputs (outputs-are_wanted s sound_stage name.task below (file_at files) run.outputs makes))
+    pub run_stays : (run : Runs (stage_at notes.plan.queue first) files name) → is_sound s ≡ true → Clear (stages_in stage_reader notes.plan.queue old) name.stage (facts_of name.stage s) → with_outputs files run.outputs ≡ files
+    run_stays run sound_stage clear =
+        outputs_stay files run.outputs
+        (output_there run.outputs (held-are_wanted s sound_stage name.task below (file_at files) run.outputs (has_passes run sound_stage clear) (makes_of files run)))
 
 -- Where a name is gone since its task is done, the others can be run.
 pub can_after : (notes : Notes) (first old : Files) (phase : Phase) (name : QueueName) (names : List QueueName) → AreFitNotes notes → Sound stage_reader notes.plan.queue old → Knows (stands notes phase) old
@@ -131,6 +150,7 @@ can_after notes first old phase name names fit sound knows kept all h can =
     let done = holds q old (Done (task_of name)) h.done in
     let task = sound.names.tasks (Done (task_of name)) (task_of name) done.bytes refl done.is in
     let below : name.task < task_count noted.stage = subst (λ (f : Facts). name.task < f.tasks) (same_Some task.stage facts (sym task.is ∙ is)) task.below in
-    let there = sound.outputs.done name.stage name.task facts is (subst (Clear records name.stage) (sym noted.facts) h.clear) h.done in
-    let stays = run_stays notes first old name sound kept noted.stage noted.is is can.files can.agree below there can.run.0 (known_sound notes fit name.stage noted.stage noted.is) in
+    let clear = subst (Clear records name.stage) (sym noted.facts) h.clear in
+    let there = sound.outputs.done name.stage name.task facts is clear h.done in
+    let stays = run_stays notes first old name sound kept noted.stage noted.is is can.files can.agree below there can.run.0 (known_sound notes fit name.stage noted.stage noted.is) clear in
     record { files = can.files; agree = can.agree; run = subst (λ (files : Files). RunInOrder (stage_at q first) files names) stays can.run.1 }

@@ -1,29 +1,33 @@
 -- A worker by itself that holds a task finds its inputs, runs it, hands over what it makes, and calls it done.
 use Rattle.std.specs.Prelude.{◌≡◌, ℕ, Bool, true, false, List, [], ◌∷◌, ◌++◌, length, Option, None, Some, IsSome, is_some, Contains, refl}
 use Rattle.std.specs.FinMap as maps
-use Rattle.std.proofs.Common.{ap, sym, subst, true≢false, ◌∙◌}
+use Rattle.std.proofs.Common.{ap, sym, subst, ◌∙◌}
 use Rattle.std.proofs.lemmas.Option.{get_or_from_slice_get, same_Some}
 use Rattle.ig_defs.specs.declared.queue_name.QueueName.{QueueName}
 use Rattle.ig_defs.specs.declared.step.Act.{Act}
 use Rattle.ig_defs.specs.declared.step.Act.TheVariants as act
 use Rattle.ig_defs.specs.Files.{Files, file_at}
 use Rattle.ig_defs.specs.Log.{after}
+use Rattle.ig_defs.specs.Own.{File}
 use Rattle.ig_defs.specs.QueueNames.{task_of}
 use Rattle.ig_cutout.specs.declared.types.Input.{Input}
 use Rattle.ig_cutout.specs.declared.types.Output.{Output}
 use Rattle.ig_cutout.specs.Inputs.{HoldsAll}
 use Rattle.ig_record.specs.declared.stage.Stage.{Stage}
 use Rattle.ig_record.specs.Columns.{inputs_of, paths_of}
+use Rattle.ig_record.specs.Sound.{is_sound}
 use Rattle.ig_meaning.specs.Agreeing.{made-fine}
 use Rattle.ig_meaning.specs.Jobs.{with_outputs, with_text}
 use Rattle.ig_meaning.specs.Refusal.{Refusal}
 use Rattle.ig_meaning.specs.Task.{task_outputs, task_refusal}
+use Rattle.ig_rule.specs.KeptInputs.{kept_stands}
 use Rattle.ig_rule.specs.Known.{IsKnownLease}
 use Rattle.ig_rule.specs.QueueFiles.{Done, Queue, Queued, queue_of}
 use Rattle.ig_rule.specs.Sound.{Sound}
 use Rattle.ig_rule.specs.SoundFiles.{none_there}
 use Rattle.ig_rule.specs.Stages.{stages_in}
-use Rattle.ig_task.specs.Facts.{stage_reader}
+use Rattle.ig_task.specs.Facts.{is_scratch, stage_reader}
+use Rattle.ig_task.specs.Kinds.{kinds}
 use Rattle.ig_worker.specs.declared.notes.Notes.{Notes}
 use Rattle.ig_worker.specs.declared.phase.Phase.TheVariants.{Fetching, Finishing, Running}
 use Rattle.ig_worker.specs.declared.turn.Why.{Why}
@@ -32,16 +36,18 @@ use Rattle.ig_worker.specs.AloneFiles.{agree_outputs, remove_absent, text_outsid
 use Rattle.ig_worker.specs.AloneGoing.{GoesOn, IsHanding, IsHolding, IsKept, RunInOrder, StaysGoing}
 use Rattle.ig_worker.specs.AloneKept.{ahead_on, all_on, kept_on, moved_on, queue_kept, turned_kept}
 use Rattle.ig_worker.specs.AloneLeft.{left_done, left_on}
-use Rattle.ig_worker.specs.AloneRuns.{chunk_is_apart, input_there, makes_of, path_is_apart}
+use Rattle.ig_worker.specs.AloneRuns.{input_is_apart, input_there, makes_of, path_is_apart}
 use Rattle.ig_worker.specs.AloneTries.{can_on, goes_fetching, goes_trying}
 use Rattle.ig_defs.specs.Answers.{Answer, Found, Names, Put, Takes, WasThere, act_if}
 use Rattle.ig_worker.specs.CanFinish.{stage_at}
 use Rattle.ig_worker.specs.Fit.{AreFitNotes, IsFetching, IsFinishing, IsRunning}
-use Rattle.ig_worker.specs.KeepsFiles.{found-holds, next_path, next_path-among}
+use Rattle.ig_worker.specs.KeepsFiles.{found-holds, found-path, found-sorts, next_path, next_path-among}
+use Rattle.ig_worker.specs.KeepsHanding.{nothing_there}
 use Rattle.ig_worker.specs.KeepsLeases.{known_one}
+use Rattle.ig_worker.specs.KeepsLists.{kept_from, some_of}
 use Rattle.ig_worker.specs.KeepsNames.{task_fits-queue}
 use Rattle.ig_worker.specs.KeepsTasks.{known_sound, ran_known}
-use Rattle.ig_worker.specs.Knows.{Knows, fetched_lease, made_lease}
+use Rattle.ig_worker.specs.Knows.{Knows, fetched_lease, found_files, made_lease}
 use Rattle.ig_worker.specs.Moves.{ActsOn, HandsOver, IsCause, IsOutcome, Makes, Move, Outcome, ReadsInput, Refuses, RunsTask, call_by, done_path, queued_path}
 use Rattle.ig_worker.specs.Places.{fetched, next_try, stands}
 use Rattle.ig_worker.specs.Stages.{stage_in}
@@ -69,10 +75,6 @@ fetching_goes notes name paths given names at from to first old new m early fit 
     (found_goes notes name paths given names at first old l.path l.found taken.1 there goes.kept hold)) called.takes
 
 -- ---- what it makes is handed over
-nothing_there : (o : Option (List ℕ)) → false ≡ is_some o → o ≡ None
-nothing_there None e = refl
-nothing_there (Some bytes) e = absurd (true≢false (sym e))
-
 text_by : (old new : Files) (a : Act) (path : List ℕ) (there : Bool) → a ≡ act_if there (act.Remove path) path → there ≡ is_some (file_at old path) → new ≡ after old a → new ≡ maps.remove old path
 text_by old new a path true is_act is files = files ∙ ap (after old) is_act
 text_by old new a path false is_act is files = files ∙ ap (after old) is_act ∙ remove_absent old path (nothing_there (file_at old path) is)
@@ -157,11 +159,24 @@ module _ (notes : Notes) (name : QueueName) (given : List Input) (names : List Q
   lease : IsKnownLease (stages_in stage_reader notes.plan.queue old) old (fetched_lease name given s)
   lease = known_one (stages_in stage_reader notes.plan.queue old) old (fetched_lease name given) (stage_in notes.known name.stage) s is known.leases
 
-  -- the inputs stand in the files over which the tasks can be run too
+  sound_stage : is_sound s ≡ true
+  sound_stage = known_sound notes fit name.stage s is
+
+  input_path : (file : File) → Contains (found_files given) file → Contains (inputs_of s name.task) file.path
+  input_path file among = subst (λ (t : Stage). Contains (inputs_of t name.task) file.path) (same_Some f.stage s (sym f.leased.stage ∙ is)) (subst (λ (paths : List (List ℕ)). Contains paths file.path) f.read (found-path given file among))
+
+  -- what was found stands still: a source chunk has not changed, and a file of an earlier pass can have no other text
+  stands_there : (file : File) → Contains (found_files given) file → file_at old file.path ≡ Some file.bytes
+  stands_there = found-sorts s (λ file. file_at old file.path ≡ Some file.bytes) (found_files given) (λ file among. (lease.sources file among).1)
+      (λ file among.
+      let found = some_of (file_at old file.path) (input_there notes first old name sound kept s is lease.is hold.can.files hold.can.run.0 hold.can.agree sound_stage lease.below file.path
+      (input_path file (kept_from (λ (f : File). is_scratch s f.path) (found_files given) file among).0)) in
+      found.1 ∙ ap Some (kept_stands stage_reader kinds notes.plan.queue old (fetched_lease name given s) sound lease file among found.0 found.1))
+
+  -- and so does it in the files over which the tasks can be run
   holds_there : HoldsAll (file_at hold.can.files) given
   holds_there = found-holds (file_at hold.can.files) given f.found (λ file among.
-      let source = lease.sources file among in
-      sym (hold.can.agree file.path (chunk_is_apart notes first old name sound kept s is lease.is file.path source.0)) ∙ source.1)
+      sym (hold.can.agree file.path (input_is_apart notes first old name sound kept s is lease.is sound_stage lease.below file.path (input_path file among))) ∙ stands_there file among)
 
   made : task_outputs s name.task (file_at hold.can.files) ≡ Some hold.can.run.0.outputs
   made = makes_of notes first old name sound kept s is lease.is hold.can.files hold.can.run.0

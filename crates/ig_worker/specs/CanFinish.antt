@@ -1,11 +1,14 @@
 -- Nothing keeps a worker by itself from finishing all tasks of its queue: this project's own.
-use Rattle.std.specs.Prelude.{◌≡◌, ◌≤◌, ◌<◌, ℕ, List, [], ◌∷◌, All, length, Option, None, Some, Contains, IsSome, option_and_then, option_map}
+use Rattle.std.specs.Prelude.{◌≡◌, ◌≤◌, ◌<◌, ℕ, true, List, [], ◌∷◌, All, length, Option, None, Some, Contains, IsSome, option_and_then, option_map}
 use Rattle.std.specs.Cmp.Lexicographic.{slice_cmp}
 use Rattle.std.specs.List.Sorted.{IsStrictlySortedBy}
 use Rattle.std.specs.Ordering.{nat_cmp}
 use Rattle.ig_space.specs.declared.task_id.TaskId.{TaskId}
 use Rattle.ig_defs.specs.declared.queue_name.QueueName.{QueueName}
+use Rattle.ig_defs.specs.declared.step.Step.{Step}
 use Rattle.ig_defs.specs.Files.{Files}
+use Rattle.ig_defs.specs.Log.{Log}
+use Rattle.ig_defs.specs.Own.{steps_since}
 use Rattle.ig_record.specs.declared.stage.Stage.{Stage}
 use Rattle.ig_record.specs.Reading.{record_in}
 use Rattle.ig_meaning.specs.Jobs.{Job, job_of, sequential}
@@ -15,7 +18,13 @@ use Rattle.ig_rule.specs.QueueFiles.{Dead, Queued, Record, queue_of}
 use Rattle.ig_rule.specs.Stages.{Clear, Sealed, stages_in}
 use Rattle.ig_queue.specs.Candidates.{rank}
 use Rattle.ig_task.specs.Facts.{stage_reader}
+use Rattle.ig_worker.specs.declared.error.WorkerError.{WorkerError}
+use Rattle.ig_worker.specs.declared.phase.Phase.TheVariants.{Broken}
 use Rattle.ig_worker.specs.declared.plan.Plan.{Plan}
+use Rattle.ig_worker.specs.declared.turn.End.{End}
+use Rattle.ig_worker.specs.declared.turn.End.TheVariants.{Finished}
+use Rattle.ig_worker.specs.Course.{end_at}
+use Rattle.ig_worker.specs.Places.{State}
 
 -- the stages that are recorded, by their numbers
 abbrev pub stage_at : List ℕ → Files → ℕ → Option Stage
@@ -55,3 +64,16 @@ pub record CanFinish (plan : Plan) (at : ℕ) (files : Files) : Type 0 where
   pub tries : All (λ name. name.attempt < plan.tries) names
   pub turns : length names ≤ plan.turns
   pub run : IsSome (sequential_named (stage_at plan.queue files) names files)
+
+-- ---- a worker by itself
+abbrev pub IsOwn : Step → Type 0
+IsOwn step = step.mine ≡ true
+
+-- each step that the log grew by is the worker's own
+abbrev pub AreOwn : Log → Log → Type 0
+AreOwn old new = All IsOwn (steps_since old new)
+
+-- Where the worker ends it has finished, and it stops at no error of its own.
+pub record IsOnItsWay (s : State) : Type 0 where
+  pub finishes : (e : End) → end_at s.notes s.phase ≡ Some e → (tasks : ℕ) × (e ≡ Finished tasks)
+  pub never_broken : (error : WorkerError) → s.phase ≡ Broken error → ⊥

@@ -17,13 +17,14 @@ use Rattle.ig_record.specs.Reading.{record_in}
 use Rattle.ig_record.specs.ReadingLaws.{record_in-IsRecord}
 use Rattle.ig_record.specs.Columns.{inputs_of, paths_of}
 use Rattle.ig_queue.specs.Candidates.{IsCandidate}
+use Rattle.ig_task.specs.Wanted.{HasText}
 use Rattle.ig_worker.specs.declared.notes.Notes.{Notes}
 use Rattle.ig_worker.specs.declared.phase.Phase.{Phase}
 use Rattle.ig_worker.specs.declared.phase.Phase.TheVariants.{Starting, Learning, Asking, Trying, Fetching, Running, Finishing, Closing, ListingDead, ListingDone, Telling, Over, Broken}
 use Rattle.ig_worker.specs.declared.phase.Then.{Then}
 use Rattle.ig_worker.specs.declared.phase.Then.TheVariants.{Ask, Try, Count}
 use Rattle.ig_worker.specs.EndsStages.{IsFew, few_listed, few_named, stages_with}
-use Rattle.ig_worker.specs.Fit.{AreFitNotes, AreOpen, HasText, IsDue, IsFetching, IsFinishing, IsFitPhase, IsFitThen, IsFound, IsLeased, IsOpen}
+use Rattle.ig_worker.specs.Fit.{AreFitNotes, AreOpen, IsDue, IsFetching, IsFinishing, IsFitPhase, IsFitThen, IsFound, IsLeased, IsOpen}
 use Rattle.ig_worker.specs.KeepsFiles.{next_path}
 use Rattle.ig_worker.specs.KeepsNames.{leased_fits}
 use Rattle.ig_worker.specs.Moves.{ActsOn, HandsOver, IsOutcome, Leads, ListsStages, Makes, Move, Outcome, ReadsInput, ReadsRecord, Refuses, TriesBy, leased}

@@ -1,11 +1,11 @@
 -- What lasts in a legal log, and what a listing tells of it.
-use Rattle.std.specs.Prelude.{◌≡◌, ◌≤◌, ℕ, Bool, true, List, [], ◌∷◌, ◌++◌, length, Some, IsSome, is_some, codes, refl}
-use Rattle.std.proofs.Common.{inl, inr, ap, sym, subst, ◌∙◌}
+use Rattle.std.specs.Prelude.{◌≡◌, ◌≤◌, ℕ, Bool, true, List, [], ◌∷◌, ◌++◌, length, Some, IsSome, codes, refl}
+use Rattle.std.proofs.Common.{inl, inr, sym, subst}
 use Rattle.ig_space.specs.Path.{is_path, joined}
 use Rattle.ig_space.specs.declared.task_id.TaskId.{TaskId}
 use Rattle.ig_defs.specs.declared.step.Act.{Act}
 use Rattle.ig_defs.specs.declared.step.Step.{Step}
-use Rattle.ig_defs.specs.Files.{Files, file_at}
+use Rattle.ig_defs.specs.Files.{Files}
 use Rattle.ig_defs.specs.Log.{Log, AreAllowed, ByOthers, after, files_of, replay}
 use Rattle.ig_defs.specs.Names.{Stands, StandsOnce, StandsThroughout}
 use Rattle.ig_defs.specs.QueueNames.{stage_file, task_file, task_fits}
@@ -18,7 +18,6 @@ use Rattle.ig_rule.specs.Facts.{Facts}
 use Rattle.ig_rule.specs.Prefixes.{legal_sound}
 use Rattle.ig_rule.specs.QueueFiles.{Done, queue_of}
 use Rattle.ig_rule.specs.QueueStays.{queue_stays}
-use Rattle.ig_rule.specs.QueueSteps.{queue_of-fits}
 use Rattle.ig_rule.specs.Roles.{Allows}
 use Rattle.ig_rule.specs.declared.role.Role.{Role}
 use Rattle.ig_rule.specs.Rule.{Allowed}
@@ -27,7 +26,7 @@ use Rattle.ig_rule.specs.SoundKept.{sound_kept}
 use Rattle.ig_rule.specs.Stages.{stages_in}
 use Rattle.ig_task.specs.Facts.{stage_reader}
 use Rattle.ig_task.specs.Kinds.{kinds}
-use Rattle.ig_worker.specs.KeepsListing.{record_stands}
+use Rattle.ig_worker.specs.KeepsListing.{file_there, record_stands}
 use Rattle.ig_worker.specs.Standing.{Lasts}
 
 pub lasts_same : (q : List ℕ) (files : Files) → Lasts q files files
@@ -80,8 +79,7 @@ module _ (role : Role) (q : List ℕ) where
 
   -- a done name that stands is that of a task that is done
   done_stands : (files : Files) (id : TaskId) → task_fits id ≡ true → Stands files (joined q (codes "done")) (task_file id) → IsSome (queue_of q files (Done id))
-  done_stands files id fit stands =
-      ap is_some (queue_of-fits q files (Done id) fit ∙ ap (file_at files) (sym (done_path_is q (task_file id) id refl))) ∙ stands.there
+  done_stands files id = file_there q files (Done id) (joined q (codes "done")) (task_file id) (done_path_is q (task_file id) id refl)
 
   -- one that stood once is so still
   pub done_once : (files : Files) (others : List Step) → Others files others → Sound stage_reader q files → (id : TaskId) → task_fits id ≡ true → StandsOnce files others (joined q (codes "done")) (task_file id)

@@ -1,15 +1,11 @@
 -- Each stage that a listing shows is recorded: by its record, or by the name of a task of it.
-use Rattle.std.specs.Prelude.{◌≡◌, ◌⊎◌, ◌≤◌, ◌<◌, ◌^◌, ◌||◌, ℕ, Bool, true, false, if◌then◌else◌, List, [], ◌∷◌, Option, None, Some, Contains, IsSome, is_some, codes, refl}
-use Rattle.std.specs.Str.{bytes_eq}
-use Rattle.std.proofs.Common.{arith, inl, inr, ap, sym, subst, true≢false, ◌∙◌}
-use Rattle.std.proofs.lemmas.Bool.{lt-ltb}
+use Rattle.std.specs.Prelude.{◌≡◌, ◌⊎◌, ◌≤◌, ◌<◌, ◌||◌, ℕ, Bool, true, false, if◌then◌else◌, List, [], ◌∷◌, Option, None, Some, Contains, IsSome, is_some, codes, refl}
+use Rattle.std.proofs.Common.{arith, inl, inr, ap, sym, subst, ◌∙◌}
 use Rattle.std.proofs.lemmas.List.Elements.{All-contains}
-use Rattle.std.proofs.lemmas.Option.{none-some, same_Some}
-use Rattle.std.proofs.lemmas.Slice.Eq.{bytes_eq-Decides}
 use Rattle.ig_space.specs.Path.{joined}
 use Rattle.ig_defs.specs.declared.queue_name.QueueName.{QueueName}
 use Rattle.ig_defs.specs.declared.step.Step.{Step}
-use Rattle.ig_defs.specs.Files.{Files, file_at}
+use Rattle.ig_defs.specs.Files.{Files}
 use Rattle.ig_defs.specs.Log.{Log, ByOthers, after, files_of, replay}
 use Rattle.ig_defs.specs.Names.{Stands, StandsOnce}
 use Rattle.ig_defs.specs.QueueNames.{queue_file, queue_fits, stage_file, stage_fits, task_of}
@@ -18,7 +14,7 @@ use Rattle.ig_queue.specs.Candidates.{AreCandidates, IsCandidate}
 use Rattle.ig_queue.specs.FilesAt.{queued_path_is, record_path_is}
 use Rattle.ig_rule.specs.Facts.{Facts}
 use Rattle.ig_rule.specs.QueueFiles.{Queued, Record, queue_of}
-use Rattle.ig_rule.specs.QueueSteps.{holds, queue_of-fits}
+use Rattle.ig_rule.specs.QueueSteps.{holds}
 use Rattle.ig_rule.specs.Roles.{Allows}
 use Rattle.ig_rule.specs.declared.role.Role.{Role}
 use Rattle.ig_rule.specs.Sound.{Sound}
@@ -29,65 +25,44 @@ use Rattle.ig_defs.specs.Turns.{Listed}
 use Rattle.ig_defs.specs.TurnLaws.{files_then}
 use Rattle.ig_task.specs.Facts.{stage_reader}
 use Rattle.ig_task.specs.Kinds.{kinds}
-use Rattle.ig_meaning.specs.Lists.{first_of-from}
 use Rattle.ig_worker.specs.EndsLasts.{lasts_others}
-use Rattle.ig_worker.specs.KeepsLists.{first_in, in_cases, later_in, none_in}
+use Rattle.ig_worker.specs.KeepsListing.{IsNameOf, file_there, stage_named-from}
+use Rattle.ig_worker.specs.KeepsLists.{first_in, in_cases, later_in, none_in, some_of}
 use Rattle.ig_worker.specs.Stages.{Known, is_last, stage_in, unknown_after, unknown_listed, unknown_named, with_unknown}
 
 -- A stage with this number is recorded.
 abbrev pub HasStage : List ℕ → Files → ℕ → Type 0
 HasStage q files n = (t : Facts) × (stages_in stage_reader q files n ≡ Some t)
 
--- ---- the name of a record
--- it is that of this stage
-record IsNameOf (name : List ℕ) (n : ℕ) : Type 0 where
-  fits : stage_fits n ≡ true
-  is : stage_file n ≡ name
-
-named_by : (name : List ℕ) (k n : ℕ) (b : Bool) → bytes_eq (stage_file k) name ≡ b → k < 10 ^ 4 → (if b then Some k else None) ≡ Some n → IsNameOf name n
-named_by name k n true e few is =
-    let same : k ≡ n = same_Some k n is in
-    record { fits = lt-ltb n (10 ^ 4) (omega (arith, same, few)); is = ap stage_file (sym same) ∙ (bytes_eq-Decides (stage_file k) name).0 e }
-named_by name k n false e few is = absurd (none-some n is)
-
-stage_named-from : (name : List ℕ) (n : ℕ) → stage_named name ≡ Some n → IsNameOf name n
-unfolding stage_named
-stage_named-from name n is =
-    let v = first_of-from (λ k. if bytes_eq (stage_file k) name then Some k else None) (10 ^ 4) n is in
-    named_by name v.number n (bytes_eq (stage_file v.number) name) refl v.below v.is
-
 -- ---- the stages that a listing of records shows
--- the name of its record was given
-record IsListed (given : List (List ℕ)) (n : ℕ) : Type 0 where
-  fits : stage_fits n ≡ true
-  among : Contains given (stage_file n)
+-- the name of its record was given, and it isn't known
+pub record IsListed (known : Known) (given : List (List ℕ)) (n : ℕ) : Type 0 where
+  pub fits : stage_fits n ≡ true
+  pub among : Contains given (stage_file n)
+  pub unknown : is_some (stage_in known n) ≡ false
 
-first_or_rest : (known : Known) (o : Option ℕ) (rest : List ℕ) (n : ℕ) → Contains (with_unknown known o rest) n → (o ≡ Some n) ⊎ Contains rest n
-first_or_rest known None rest n among = inr among
-first_or_rest known (Some m) rest n among = by_test (is_some (stage_in known m)) among
+listed_first : (known : Known) (name : List ℕ) (names : List (List ℕ)) (n : ℕ) → IsNameOf name n → is_some (stage_in known n) ≡ false → IsListed known (name ∷ names) n
+listed_first known name names n h unknown = record { fits = h.fits; among = subst (λ x. Contains (x ∷ names) (stage_file n)) h.is (first_in (stage_file n) names); unknown = unknown }
+
+listed_later : (known : Known) (name : List ℕ) (names : List (List ℕ)) (n : ℕ) → IsListed known names n → IsListed known (name ∷ names) n
+listed_later known name names n h = record { fits = h.fits; among = later_in name names (stage_file n) h.among; unknown = h.unknown }
+
+listed_by : (known : Known) (name : List ℕ) (names : List (List ℕ)) (n : ℕ) (o : Option ℕ) (rest : List ℕ) → stage_named name ≡ o → (Contains rest n → IsListed known names n) → Contains (with_unknown known o rest) n
+    → IsListed known (name ∷ names) n
+listed_by known name names n None rest is later among = listed_later known name names n (later among)
+listed_by known name names n (Some m) rest is later among = by_test (is_some (stage_in known m)) refl among
   where
-    by_place : (m ≡ n) ⊎ Contains rest n → ◌≡◌ {A = Option ℕ} (Some m) (Some n) ⊎ Contains rest n
-    by_place (inl e) = inl (ap Some e)
-    by_place (inr later) = inr later
+    by_test : (b : Bool) → is_some (stage_in known m) ≡ b → Contains (if b then rest else m ∷ rest) n → IsListed known (name ∷ names) n
+    by_test true e h = listed_later known name names n (later h)
+    by_test false e h = by_place (in_cases m rest n h)
+      where
+        by_place : (m ≡ n) ⊎ Contains rest n → IsListed known (name ∷ names) n
+        by_place (inl same) = listed_first known name names n (stage_named-from name n (is ∙ ap Some same)) (ap (λ k. is_some (stage_in known k)) (sym same) ∙ e)
+        by_place (inr h') = listed_later known name names n (later h')
 
-    by_test : (b : Bool) → Contains (if b then rest else m ∷ rest) n → ◌≡◌ {A = Option ℕ} (Some m) (Some n) ⊎ Contains rest n
-    by_test true h = inr h
-    by_test false h = by_place (in_cases m rest n h)
-
-listed_first : (name : List ℕ) (names : List (List ℕ)) (n : ℕ) → IsNameOf name n → IsListed (name ∷ names) n
-listed_first name names n h = record { fits = h.fits; among = subst (λ x. Contains (x ∷ names) (stage_file n)) h.is (first_in (stage_file n) names) }
-
-listed_later : (name : List ℕ) (names : List (List ℕ)) (n : ℕ) → IsListed names n → IsListed (name ∷ names) n
-listed_later name names n h = record { fits = h.fits; among = later_in name names (stage_file n) h.among }
-
-listed_by : (name : List ℕ) (names : List (List ℕ)) (n : ℕ) (more : List ℕ) → (Contains more n → IsListed names n) → (stage_named name ≡ Some n) ⊎ Contains more n → IsListed (name ∷ names) n
-listed_by name names n more later (inl is) = listed_first name names n (stage_named-from name n is)
-listed_by name names n more later (inr among) = listed_later name names n (later among)
-
-was_listed : (known : Known) (given : List (List ℕ)) (n : ℕ) → Contains (unknown_listed known given) n → IsListed given n
+pub was_listed : (known : Known) (given : List (List ℕ)) (n : ℕ) → Contains (unknown_listed known given) n → IsListed known given n
 was_listed known [] n among = absurd (none_in n among)
-was_listed known (name ∷ names) n among =
-    listed_by name names n (unknown_listed known names) (was_listed known names n) (first_or_rest known (stage_named name) (unknown_listed known names) n among)
+was_listed known (name ∷ names) n among = listed_by known name names n (stage_named name) (unknown_listed known names) refl (was_listed known names n) among
 
 -- ---- the stages of listed tasks
 -- one of these names is that of a task of the stage
@@ -115,30 +90,23 @@ stage_of_name known last (x ∷ names) n among =
     (stage_of_name known last names n) (stage_of_name known (Some x.stage) names n) among
 
 -- ---- what stands in sound files
-some_facts : (o : Option Facts) → IsSome o → (t : Facts) × (o ≡ Some t)
-some_facts (Some t) there = (t, refl)
-some_facts None there = absurd (true≢false (sym there))
-
 below_or_beyond : (n count : ℕ) → (n < count) ⊎ (count ≤ n)
 below_or_beyond n count = grind arith
 
 module _ (q : List ℕ) (files : Files) (sound : Sound stage_reader q files) where
   recorded_by : (n : ℕ) → IsSome (queue_of q files (Record n)) → (n < sound.numbered.count) ⊎ (sound.numbered.count ≤ n) → HasStage q files n
-  recorded_by n there (inl below) = some_facts (stages_in stage_reader q files n) (sound.numbered.present n below)
+  recorded_by n there (inl below) = some_of (stages_in stage_reader q files n) (sound.numbered.present n below)
   recorded_by n there (inr beyond) = absurd (none_there (queue_of q files (Record n)) there (sound.numbered.no_more n beyond))
 
   -- a record is that of a recorded stage,
-  record_tells : (n : ℕ) → stage_fits n ≡ true → Stands files (stages_dir q) (stage_file n) → HasStage q files n
+  pub record_tells : (n : ℕ) → stage_fits n ≡ true → Stands files (stages_dir q) (stage_file n) → HasStage q files n
   record_tells n fit stands =
-      recorded_by n (ap is_some (queue_of-fits q files (Record n) fit ∙ ap (file_at files) (sym (record_path_is q (stage_file n) n refl))) ∙ stands.there)
-      (below_or_beyond n sound.numbered.count)
+      recorded_by n (file_there q files (Record n) (stages_dir q) (stage_file n) (record_path_is q (stage_file n) n refl) fit stands) (below_or_beyond n sound.numbered.count)
 
   -- and a name in the queue is that of a task of one
   name_tells : (name : QueueName) → queue_fits name ≡ true → Stands files (joined q (codes "queue")) (queue_file name) → HasStage q files name.stage
   name_tells name fit stands =
-      let there : IsSome (queue_of q files (Queued name))
-      = ap is_some (queue_of-fits q files (Queued name) fit ∙ ap (file_at files) (sym (queued_path_is q (queue_file name) name refl))) ∙ stands.there in
-      let h = holds q files (Queued name) there in
+      let h = holds q files (Queued name) (file_there q files (Queued name) (joined q (codes "queue")) (queue_file name) (queued_path_is q (queue_file name) name refl) fit stands) in
       let task = sound.names.tasks (Queued name) (task_of name) h.bytes refl h.is in
       (task.stage, task.is)
 

@@ -1,16 +1,12 @@
 -- The names of tasks that listings show.
-use Rattle.std.specs.Prelude.{◌≡◌, ◌⊎◌, ◌≤◌, ◌<◌, ◌^◌, ◌+◌, ℕ, Bool, true, false, if◌then◌else◌, List, [], ◌∷◌, length, Option, None, Some, Contains, refl}
+use Rattle.std.specs.Prelude.{◌≡◌, ◌⊎◌, ◌<◌, ◌^◌, ℕ, Bool, true, false, if◌then◌else◌, List, [], ◌∷◌, Option, None, Some, Contains, refl}
 use Rattle.std.specs.List.{list_any}
 use Rattle.std.specs.Str.{bytes_eq}
-use Rattle.std.proofs.Common.{arith, inl, inr, ap, sym, subst, true≢false, ◌∙◌, length-append}
+use Rattle.std.proofs.Common.{inl, inr, ap, sym, subst, true≢false, ◌∙◌}
 use Rattle.std.proofs.lemmas.Bool.{and_from, cases_Bool, lt-ltb}
 use Rattle.std.proofs.lemmas.Option.{none-some, same_Some}
 use Rattle.std.proofs.lemmas.Slice.Eq.{bytes_eq-Decides}
-use Rattle.ig_space.specs.ChunkNames.{is_path-segment}
-use Rattle.ig_space.specs.Path.{is_path, is_segment, joined}
-use Rattle.ig_space.specs.Segments.{is_path-joined}
 use Rattle.ig_space.specs.declared.task_id.TaskId.{TaskId}
-use Rattle.ig_defs.specs.Names.{IsNameIn}
 use Rattle.ig_defs.specs.QueueNames.{stage_fits, task_file, task_fits}
 use Rattle.ig_defs.specs.QueueNameLaws.{IsTask-fits, task_file-same}
 use Rattle.ig_layer.specs.Faults.{first_of}
@@ -114,11 +110,3 @@ among_listed given text among = by_test (cases_Bool (list_any (bytes_eq text) gi
     by_test : (list_any (bytes_eq text) given ≡ true) ⊎ (list_any (bytes_eq text) given ≡ false) → list_any (bytes_eq text) given ≡ true
     by_test (inl some) = some
     by_test (inr none) = absurd (true≢false (sym ((bytes_eq-Decides text text).1 refl) ∙ any_false (bytes_eq text) given text none among))
-
--- ---- a name makes a path in a directory of the queue
-pub name_in : (q folder name : List ℕ) → is_path q ≡ true → length q ≤ 100 → is_segment folder ≡ true → length folder ≤ 6 → is_segment name ≡ true → length name ≤ 32 → IsNameIn (joined q folder) name
-name_in q folder name path short within most segment small =
-    let dir_long : length (joined q folder) ≡ length q + (1 + length folder) = length-append q (47 ∷ folder) ∙ omega arith in
-    let all_long : length (joined (joined q folder) name) ≡ length q + (1 + length folder) + (1 + length name) = length-append (joined q folder) (47 ∷ name) ∙ omega (arith, dir_long) in
-    let dir : is_path (joined q folder) ≡ true = is_path-joined q folder path (is_path-segment folder (omega (arith, most)) within) (omega (arith, dir_long, short, most)) in
-    record { segment = segment; path = is_path-joined (joined q folder) name dir (is_path-segment name (omega (arith, small)) segment) (omega (arith, all_long, short, most, small)) }

@@ -12,7 +12,7 @@ use Rattle.ig_record.specs.Stage.{task_count}
 use Rattle.ig_rule.specs.Known.{KeptStage}
 use Rattle.ig_rule.specs.Stages.{Records, Clear, IsSpared}
 use Rattle.ig_task.specs.Facts.{facts_of}
-use Rattle.ig_worker.specs.KeepsInputs.{removes_source}
+use Rattle.ig_task.specs.OwnedPaths.{removes_source}
 use Rattle.ig_worker.specs.KeepsLists.{first_in, in_cases, later_in, map_in, none_in}
 use Rattle.ig_worker.specs.Knows.{kept_of}
 use Rattle.ig_worker.specs.Stages.{Known, is_dir, is_last, is_removed, is_under_removal, may_run, open_names, removes_dir, stage_in, tasks_by, unknown_after}

@@ -32,6 +32,7 @@ use Rattle.ig_worker.specs.declared.phase.Then.{Then}
 use Rattle.ig_worker.specs.declared.phase.Then.TheVariants.{Ask, Try, Count}
 use Rattle.ig_worker.specs.declared.plan.Plan.{Plan}
 use Rattle.ig_defs.specs.Answers.{Takes}
+use Rattle.ig_worker.specs.CanFinish.{stage_at}
 use Rattle.ig_worker.specs.Course.{Course, fresh}
 use Rattle.ig_worker.specs.EndsCourse.{course_later}
 use Rattle.ig_worker.specs.EndsEnding.{listed_by}
@@ -126,11 +127,12 @@ acts_calm notes name names m (Refuses cause) h = ap (λ (v : Move). is_calm v.ne
 
 -- ---- the record of a stage
 -- it stands, and is one
-record HasRecord (q : List ℕ) (files : Files) (n : ℕ) : Type 0 where
-  text : List ℕ
-  stage : Stage
-  stands_there : file_at files (record_path q n) ≡ Some text
-  reads : record_in n text ≡ Some stage
+pub record HasRecord (q : List ℕ) (files : Files) (n : ℕ) : Type 0 where
+  pub text : List ℕ
+  pub stage : Stage
+  pub stands_there : file_at files (record_path q n) ≡ Some text
+  pub reads : record_in n text ≡ Some stage
+  pub at : stage_at q files n ≡ Some stage
 
 stage_by : (n : ℕ) (text : List ℕ) (t : Facts) (o : Option Stage) → record_in n text ≡ o → option_map (facts_of n) o ≡ Some t → (s : Stage) × (record_in n text ≡ Some s)
 stage_by n text t None e is = absurd (none-some t is)
@@ -140,11 +142,11 @@ stage_read : (n : ℕ) (text : List ℕ) (t : Facts) → stage_reader n text ≡
 unfolding stage_reader
 stage_read n text t is = stage_by n text t (record_in n text) refl is
 
-record_of : (q : List ℕ) (files : Files) (n : ℕ) (t : Facts) → stages_in stage_reader q files n ≡ Some t → HasRecord q files n
+pub record_of : (q : List ℕ) (files : Files) (n : ℕ) (t : Facts) → stages_in stage_reader q files n ≡ Some t → HasRecord q files n
 record_of q files n t is =
     let h = holds q files (Record n) (has_record stage_reader (queue_of q files) n t is) in
     let s = stage_read n h.bytes t (ap (option_and_then (stage_reader n)) (sym h.is) ∙ is) in
-    record { text = h.bytes; stage = s.0; stands_there = h.stands; reads = s.1 }
+    record { text = h.bytes; stage = s.0; stands_there = h.stands; reads = s.1; at = ap (option_and_then (record_in n)) h.is ∙ s.1 }
 
 -- ---- places where records are to be read
 learns_no_error : (unread : List ℕ) (goal : Then) (error : WorkerError) → Learning unread goal ≡ Broken error → ⊥

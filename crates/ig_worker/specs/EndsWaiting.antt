@@ -1,7 +1,6 @@
 -- What is so where a worker waits, and where it tells dead letters.
-use Rattle.std.specs.Prelude.{◌≡◌, ◌≤◌, ℕ, true, List, [], ◌∷◌, length, Option, None, Some, Contains, IsSome, is_some, codes, refl}
-use Rattle.std.specs.FinMap as maps
-use Rattle.std.proofs.Common.{arith, ap, sym, subst, true≢false, ◌∙◌}
+use Rattle.std.specs.Prelude.{◌≡◌, ◌≤◌, ℕ, true, List, [], ◌∷◌, length, Some, Contains, IsSome, codes, refl}
+use Rattle.std.proofs.Common.{arith, sym, subst, true≢false, ◌∙◌}
 use Rattle.ig_space.specs.Path.{is_path, joined}
 use Rattle.ig_space.specs.declared.task_id.TaskId.{TaskId}
 use Rattle.ig_defs.specs.declared.step.Step.{Step}
@@ -13,7 +12,6 @@ use Rattle.ig_defs.specs.QueueNameLaws.{is_segment-task_file, length-task_file}
 use Rattle.ig_queue.specs.FilesAt.{done_path_is}
 use Rattle.ig_rule.specs.Prefixes.{legal_sound}
 use Rattle.ig_rule.specs.QueueFiles.{Done, queue_of}
-use Rattle.ig_rule.specs.QueueSteps.{holds}
 use Rattle.ig_rule.specs.Roles.{Allows}
 use Rattle.ig_rule.specs.declared.role.Role.{Role}
 use Rattle.ig_rule.specs.Sound.{Sound}
@@ -25,8 +23,9 @@ use Rattle.ig_worker.specs.declared.plan.Plan.{Plan}
 use Rattle.ig_worker.specs.AtEnd.{AreNotDone, Ending, IsNotDone, NoneIsDead, dead_dir}
 use Rattle.ig_worker.specs.EndsLasts.{lasts_others}
 use Rattle.ig_worker.specs.EndsLeft.{all_left, different-all_left, left_is, length-all_left}
-use Rattle.ig_worker.specs.EndsNames.{among_listed, name_in, shown_from, shown_is}
-use Rattle.ig_worker.specs.KeepsLists.{map_in, none_in}
+use Rattle.ig_worker.specs.EndsNames.{among_listed, shown_from, shown_is}
+use Rattle.ig_worker.specs.KeepsListing.{file_stands}
+use Rattle.ig_worker.specs.KeepsLists.{map_in, none_in, none_of}
 use Rattle.ig_worker.specs.Knows.{kept_of}
 use Rattle.ig_worker.specs.Moves.{Move}
 use Rattle.ig_worker.specs.Places.{State}
@@ -36,12 +35,8 @@ use Rattle.ig_worker.specs.Stages.{all_unlisted, tasks_listed}
 -- the done name of a task that is done stands,
 pub done_stands : (q : List ℕ) → is_path q ≡ true → length q ≤ 100 → (files : Files) (id : TaskId) → IsSome (queue_of q files (Done id)) → Stands files (joined q (codes "done")) (task_file id)
 done_stands q path short files id there =
-    let h = holds q files (Done id) there in
     let long : length (codes "done") ≡ 4 = refl in
-    record {
-      named = name_in q (codes "done") (task_file id) path short refl (omega (arith, long)) (is_segment-task_file id) (omega (arith, length-task_file id));
-      there = ap (λ p. is_some (maps.get files p)) (done_path_is q (task_file id) id refl) ∙ ap is_some h.stands;
-    }
+    file_stands q path short files (Done id) (codes "done") (task_file id) (done_path_is q (task_file id) id refl) refl (omega (arith, long)) (is_segment-task_file id) (omega (arith, length-task_file id)) there
 
 -- and does so throughout
 done_throughout : (role : Role) (q : List ℕ) → is_path q ≡ true → length q ≤ 100 → (files : Files) (others : List Step) → ByOthers (Allows stage_reader role (Some q)) files others → Sound stage_reader q files
@@ -52,10 +47,6 @@ done_throughout role q path short files (step ∷ steps) by sound id there =
       done_stands q path short files id there,
       done_throughout role q path short (after files step.act) steps by.2 (sound_kept stage_reader kinds q files step.act sound by.1.0) id ((lasts_others role q files (step ∷ []) one sound).done id there),
     )
-
-none_by : (o : Option (List ℕ)) → (IsSome o → ⊥) → o ≡ None
-none_by None no_way = refl
-none_by (Some bytes) no_way = absurd (no_way refl)
 
 -- ---- where no dead letter was listed
 module _ (role : Role) (plan : Plan) (old mid : Log) (ms : List Move) (next : State) (new whole : Log) (e : Ending role plan old mid ms next new whole) where
@@ -73,7 +64,7 @@ module _ (role : Role) (plan : Plan) (old mid : Log) (ms : List Move) (next : St
         stage = facts_of id.stage h.stage;
         is = subst (λ (p : Plan). stages_in stage_reader p.queue (files_of e.dones) id.stage ≡ Some (facts_of id.stage h.stage)) e.before_dones.place.of_plan recorded;
         below = h.below;
-        not_done = none_by (queue_of q (files_of e.dones) (Done id)) (λ there.
+        not_done = none_of (queue_of q (files_of e.dones) (Done id)) (λ there.
             let stood = done_throughout role q limits.path limits.short (files_of e.dones) e.done_others l.by sound id there in
             true≢false (sym (among_listed e.done_names (task_file id) (l.names.each (task_file id) stood)) ∙ h.unlisted));
       }

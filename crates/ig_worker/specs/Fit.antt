@@ -1,5 +1,5 @@
 -- What a worker keeps fits together, whatever the files are.
-use Rattle.std.specs.Prelude.{◌≡◌, ◌≤◌, ◌<◌, ◌^◌, ℕ, not, true, List, take, drop, length, is_some, map, Some}
+use Rattle.std.specs.Prelude.{◌≡◌, ◌≤◌, ◌<◌, ◌^◌, ℕ, true, List, take, drop, length, is_some, map, Some}
 use Rattle.std.specs.List.{All}
 use Rattle.std.specs.List.Sorted.{IsStrictlySortedBy}
 use Rattle.std.specs.Ordering.{nat_cmp}
@@ -10,8 +10,8 @@ use Rattle.ig_cutout.specs.declared.types.Output.{Output}
 use Rattle.ig_cutout.specs.Inputs.{paths_of as input_paths}
 use Rattle.ig_record.specs.declared.stage.Stage.{Stage}
 use Rattle.ig_record.specs.Sound.{is_sound}
-use Rattle.ig_record.specs.Columns.{inputs_of, paths_of, removed_dir}
-use Rattle.ig_task.specs.Wanted.{path_of}
+use Rattle.ig_record.specs.Columns.{inputs_of, paths_of}
+use Rattle.ig_task.specs.Wanted.{HasText, path_of}
 use Rattle.ig_worker.specs.declared.notes.Notes.{Notes}
 use Rattle.ig_worker.specs.declared.phase.Phase.{Phase}
 use Rattle.ig_worker.specs.declared.phase.Phase.TheVariants.{Starting, Learning, Asking, Trying, Fetching, Running, Finishing, Closing, ListingDead, ListingDone, Telling, Over, Broken}
@@ -84,10 +84,6 @@ pub record IsRunning (notes : Notes) (name : QueueName) (given : List Input) (na
   pub read : input_paths given ≡ inputs_of stage name.task
   pub found : All IsFound given
   pub ahead : AreOpen notes names
-
--- of a removal nothing is to stand, and else something
-abbrev pub HasText : Stage → Output → Type 0
-HasText s output = is_some output.text ≡ not (is_some (removed_dir s))
 
 pub record IsFinishing (notes : Notes) (name : QueueName) (outputs : List Output) (names : List QueueName) : Type 0 where
   pub stage : Stage

@@ -1,19 +1,22 @@
 -- The files of a leased task: those that were found, those that are to be put, and the paths that are finished.
-use Rattle.std.specs.Prelude.{◌≡◌, ◌⊎◌, ◌<◌, ◌+◌, ◌-◌, ℕ, suc, true, List, [], ◌∷◌, ◌++◌, length, take, drop, get_or, map, Option, None, Some, is_some, Contains}
+use Rattle.std.specs.Prelude.{◌≡◌, ◌⊎◌, ◌<◌, ◌+◌, ◌-◌, ℕ, suc, not, true, false, List, [], ◌∷◌, ◌++◌, length, take, drop, get_or, map, Option, None, Some, is_some, Contains}
 use Rattle.std.specs.List.{All}
 use Rattle.std.proofs.Common.{arith, inl, inr, ap, sym, subst, true≢false, ◌∙◌}
 use Rattle.std.proofs.Math.Seq.{drop-cons, take-suc}
+use Rattle.std.proofs.lemmas.Bool.{cases_Bool}
 use Rattle.std.proofs.lemmas.List.{length-drop, length-map, take_all}
 use Rattle.std.proofs.lemmas.List.Elements.{All-cons, All-head, All-nil, All-tail, Contains-push_cases}
 use Rattle.ig_defs.specs.Own.{File}
 use Rattle.ig_layer.specs.Layer.{Reading}
 use Rattle.ig_cutout.specs.declared.types.Input.{Input}
 use Rattle.ig_cutout.specs.declared.types.Output.{Output}
-use Rattle.ig_cutout.specs.Inputs.{HoldsAll}
+use Rattle.ig_cutout.specs.Inputs.{HoldsAll, paths_of}
+use Rattle.ig_record.specs.declared.stage.Stage.{Stage}
+use Rattle.ig_task.specs.Facts.{is_scratch}
 use Rattle.ig_task.specs.Wanted.{path_of}
 use Rattle.ig_worker.specs.Fit.{IsFound}
-use Rattle.ig_worker.specs.KeepsLists.{first_in, in_cases, later_in, none_in}
-use Rattle.ig_worker.specs.Knows.{finished_paths, found_files, made_files, with_file}
+use Rattle.ig_worker.specs.KeepsLists.{first_in, in_cases, kept_in, later_in, none_in}
+use Rattle.ig_worker.specs.Knows.{finished_paths, found_files, made_files, of_passes, of_source, with_file}
 
 abbrev pub file_of : List ℕ → List ℕ → File
 file_of path bytes = record { path = path; bytes = bytes }
@@ -70,6 +73,24 @@ found-holds files (input ∷ given) found stands =
     All-cons (λ (i : Input). files i.path ≡ i.found) input given
     (stands_so files input.path input.found (found_files given) (All-head IsFound input given found) stands)
     (found-holds files given (All-tail IsFound input given found) (λ file h. stands file (with_file-later input.path input.found (found_files given) file h)))
+
+-- each is of the source, or an earlier pass made it
+pub found-sorts : (s : Stage) (P : File → Type 0) (files : List File) → ((file : File) → Contains (of_source s files) file → P file) → ((file : File) → Contains (of_passes s files) file → P file)
+    → (file : File) → Contains files file → P file
+found-sorts s P files source pass file among = by_test (cases_Bool (is_scratch s file.path))
+  where
+    by_test : (is_scratch s file.path ≡ true) ⊎ (is_scratch s file.path ≡ false) → P file
+    by_test (inl e) = pass file (kept_in (λ (f : File). is_scratch s f.path) files file among e)
+    by_test (inr e) = source file (kept_in (λ (f : File). not (is_scratch s f.path)) files file among (ap not e))
+
+-- each is at the path of an input
+pub found-path : (given : List Input) (file : File) → Contains (found_files given) file → Contains (paths_of given) file.path
+found-path [] file h = absurd (none_in file h)
+found-path (input ∷ given) file h = by_place (found-path given file) (with_file-cases input.path input.found (found_files given) file h)
+  where
+    by_place : (Contains (found_files given) file → Contains (paths_of given) file.path) → IsFileOf input.path input.found file ⊎ Contains (found_files given) file → Contains (paths_of (input ∷ given)) file.path
+    by_place later (inl is) = subst (Contains (paths_of (input ∷ given))) is.path_is (first_in input.path (paths_of given))
+    by_place later (inr h') = later_in input.path (paths_of given) file.path (later h')
 
 -- ---- the files that are to be put
 -- one of the outputs puts it

@@ -28,13 +28,13 @@ use Rattle.ig_task.specs.Kinds.{kinds}
 use Rattle.ig_worker.specs.declared.notes.Notes.{Notes}
 use Rattle.ig_worker.specs.declared.phase.Phase.TheVariants.{Finishing}
 use Rattle.ig_defs.specs.Answers.{Answer, Put, Takes, WasThere, act_if, Names, Found}
-use Rattle.ig_worker.specs.Fit.{HasText, IsFinishing}
+use Rattle.ig_task.specs.Wanted.{HasText}
+use Rattle.ig_worker.specs.Fit.{IsFinishing}
 use Rattle.ig_worker.specs.KeepsFiles.{IsNextPath, file_of, finished-all, finished-more, made-first, made-later, next_path, next_path-among}
 use Rattle.ig_worker.specs.KeepsKnown.{Carries, all_known, carries, known_with, rested, try_rests}
 use Rattle.ig_worker.specs.KeepsLeases.{known_one, one_known}
-use Rattle.ig_worker.specs.KeepsLists.{none_in}
+use Rattle.ig_worker.specs.KeepsLists.{none_in, none_in_both}
 use Rattle.ig_worker.specs.KeepsNames.{moved_by, task_fits-queue}
-use Rattle.ig_worker.specs.KeepsTasks.{no_file}
 use Rattle.ig_worker.specs.Knows.{Knows, finished_paths, made_lease}
 use Rattle.ig_worker.specs.Moves.{call_by, call_for, done_path, queued_path}
 use Rattle.ig_worker.specs.Places.{next_try, stands}
@@ -48,7 +48,7 @@ handed_lease records files name output outputs done s next wanted gone old = rec
   is = old.is;
   below = old.below;
   clear = old.clear;
-  no_inputs = λ removes file among. no_file file among;
+  no_inputs = λ removes file among. none_in_both file among;
   sources = λ file among. absurd (none_in file among);
   scratch = λ file among. absurd (none_in file among);
   outputs = λ makes file among. old.outputs makes file (made-later output outputs file among);
@@ -76,7 +76,7 @@ removes_by : (b : Bool) → false ≡ not b → b ≡ true
 removes_by true e = refl
 removes_by false e = absurd (true≢false (sym e))
 
-nothing_there : (o : Option (List ℕ)) → false ≡ is_some o → o ≡ None
+pub nothing_there : (o : Option (List ℕ)) → false ≡ is_some o → o ≡ None
 nothing_there None e = refl
 nothing_there (Some bytes) e = absurd (true≢false (sym e))
 

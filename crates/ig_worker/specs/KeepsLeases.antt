@@ -6,7 +6,6 @@ use Rattle.std.proofs.lemmas.Bool.{and_from, ne_eqb, or_parts}
 use Rattle.std.proofs.lemmas.Slice.Eq.{bytes_eq-Decides}
 use Rattle.ig_defs.specs.declared.queue_name.QueueName.{QueueName}
 use Rattle.ig_defs.specs.Files.{Files}
-use Rattle.ig_defs.specs.Own.{File}
 use Rattle.ig_cutout.specs.declared.types.Input.{Input}
 use Rattle.ig_record.specs.declared.stage.Stage.{Stage}
 use Rattle.ig_record.specs.Columns.{inputs_of, output_dirs, removed_dir}
@@ -15,11 +14,11 @@ use Rattle.ig_rule.specs.Facts.{Facts}
 use Rattle.ig_rule.specs.Known.{KeptStage, Lease, IsKnownLease, IsKnownOf}
 use Rattle.ig_rule.specs.Stages.{Records, Clear, IsSpared}
 use Rattle.ig_task.specs.Facts.{facts_of}
+use Rattle.ig_task.specs.OwnedPaths.{removes_source}
 use Rattle.ig_worker.specs.declared.phase.Phase.TheVariants.{Fetching, Running}
-use Rattle.ig_worker.specs.KeepsInputs.{removes_source}
 use Rattle.ig_worker.specs.KeepsKnown.{KnowsAll, kept, known_resting, known_with, memory_at, try_rests}
 use Rattle.ig_worker.specs.KeepsListing.{known_facts}
-use Rattle.ig_worker.specs.KeepsLists.{any_false, first_in, image_of, in_cases, none_in}
+use Rattle.ig_worker.specs.KeepsLists.{any_false, first_in, image_of, in_cases, none_in, none_in_both}
 use Rattle.ig_worker.specs.Knows.{fetched_lease, kept_of, leases_at, one_lease}
 use Rattle.ig_worker.specs.Places.{begun_by, fetching, leased_or_gone, next_try}
 use Rattle.ig_worker.specs.Stages.{Known, is_dir, is_removed, is_under_removal, open_tasks, removes_dir, stage_in, tasks_by}
@@ -69,17 +68,13 @@ new_lease records files name s t = record {
   is = t.is;
   below = t.below;
   clear = t.clear;
-  no_inputs = λ removes file among. no_file file among;
+  no_inputs = λ removes file among. none_in_both file among;
   sources = λ file among. absurd (none_in file among);
   scratch = λ file among. absurd (none_in file among);
   outputs = λ makes file among. absurd (none_in file among);
   put = λ makes path among. absurd (none_in path among);
   removed = λ removes path among. absurd (none_in path among);
 }
-  where
-    no_file : (file : File) → Contains [] file ⊎ Contains [] file → ⊥
-    no_file file (inl h) = none_in file h
-    no_file file (inr h) = none_in file h
 
 only_lease : (records : Records) (files : Files) (first l : Lease) → IsKnownLease records files first → (first ≡ l) ⊎ Contains [] l → IsKnownLease records files l
 only_lease records files first l h (inl e) = subst (λ v. IsKnownLease records files v) e h

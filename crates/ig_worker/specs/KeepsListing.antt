@@ -1,5 +1,5 @@
 -- What a listing of the stages tells: each removal that is recorded is known, or is still to be read.
-use Rattle.std.specs.Prelude.{◌≡◌, ◌⊎◌, ◌≤◌, ◌<◌, ◌+◌, ◌^◌, ℕ, Bool, true, false, if◌then◌else◌, List, [], ◌∷◌, length, map, Option, None, Some, is_some, Contains, codes, refl}
+use Rattle.std.specs.Prelude.{◌≡◌, ◌⊎◌, ◌≤◌, ◌<◌, ◌+◌, ◌^◌, ℕ, Bool, true, false, if◌then◌else◌, List, [], ◌∷◌, length, map, Option, None, Some, IsSome, is_some, Contains, codes, refl}
 use Rattle.std.specs.Str.{bytes_eq}
 use Rattle.std.specs.FinMap as maps
 use Rattle.std.proofs.Common.{arith, inl, inr, ap, sym, subst, true≢false, ◌∙◌, length-append}
@@ -7,12 +7,12 @@ use Rattle.std.proofs.lemmas.Bool.{lt-ltb, ltb-true}
 use Rattle.std.proofs.lemmas.Option.{none-some, same_Some}
 use Rattle.std.proofs.lemmas.Slice.Eq.{bytes_eq-Decides}
 use Rattle.ig_space.specs.ChunkNames.{is_path-segment}
-use Rattle.ig_space.specs.Path.{is_path, joined}
+use Rattle.ig_space.specs.Path.{is_path, is_segment, joined}
 use Rattle.ig_space.specs.Segments.{is_path-joined}
 use Rattle.ig_defs.specs.declared.step.Act.{Act}
 use Rattle.ig_defs.specs.declared.step.Step.{Step}
 use Rattle.ig_defs.specs.Calls.{ListsNames}
-use Rattle.ig_defs.specs.Files.{Files}
+use Rattle.ig_defs.specs.Files.{Files, file_at}
 use Rattle.ig_defs.specs.Log.{ByOthers, after, replay}
 use Rattle.ig_defs.specs.Names.{IsNameIn, Stands, StandsThroughout}
 use Rattle.ig_defs.specs.QueueNames.{stage_file, stage_fits}
@@ -23,9 +23,9 @@ use Rattle.ig_meaning.specs.QueueMaking.{stage_named, stages_dir}
 use Rattle.ig_rule.specs.Beside.{others_record_none}
 use Rattle.ig_rule.specs.Facts.{Facts}
 use Rattle.ig_rule.specs.Known.{KeptStage, RecordsRemoval}
-use Rattle.ig_rule.specs.QueueFiles.{Record, queue_of}
+use Rattle.ig_rule.specs.QueueFiles.{QueueFile, Record, fits, path_of, queue_of}
 use Rattle.ig_rule.specs.QueueStays.{queue_stays}
-use Rattle.ig_rule.specs.QueueSteps.{holds}
+use Rattle.ig_rule.specs.QueueSteps.{holds, queue_of-fits}
 use Rattle.ig_rule.specs.Roles.{Allows}
 use Rattle.ig_rule.specs.declared.role.Role.{Role}
 use Rattle.ig_rule.specs.Sound.{Sound}
@@ -34,44 +34,66 @@ use Rattle.ig_rule.specs.SoundNames.{has_record}
 use Rattle.ig_rule.specs.Stages.{Records, stages_in}
 use Rattle.ig_task.specs.Facts.{facts_of, stage_reader}
 use Rattle.ig_task.specs.Kinds.{kinds}
-use Rattle.ig_meaning.specs.Lists.{first_of-is}
+use Rattle.ig_meaning.specs.Lists.{first_of-from, first_of-is}
 use Rattle.ig_worker.specs.KeepsKnown.{KnowsStages, kept}
 use Rattle.ig_worker.specs.KeepsLists.{first_in, in_cases, later_in, map_in, none_in, stage_in-among}
 use Rattle.ig_worker.specs.Knows.{kept_of}
 use Rattle.ig_worker.specs.Stages.{Known, stage_in, unknown_listed, with_unknown}
 
 -- ---- the name of a record
-named_by : (i n y : ℕ) (b : Bool) → bytes_eq (stage_file i) (stage_file n) ≡ b → i < 10 ^ 4 → stage_fits n ≡ true → (if b then Some i else None) ≡ Some y → y ≡ n
-named_by i n y true same few fits e =
-    sym (same_Some i y e) ∙ stage_file-same i n (lt-ltb i (10 ^ 4) few) fits ((bytes_eq-Decides (stage_file i) (stage_file n)).0 same)
-named_by i n y false same few fits e = absurd (none-some y e)
+-- it is that of this stage
+pub record IsNameOf (name : List ℕ) (n : ℕ) : Type 0 where
+  pub fits : stage_fits n ≡ true
+  pub is : stage_file n ≡ name
 
--- is that of its stage
+named_by : (name : List ℕ) (k n : ℕ) (b : Bool) → bytes_eq (stage_file k) name ≡ b → k < 10 ^ 4 → (if b then Some k else None) ≡ Some n → IsNameOf name n
+named_by name k n true e few is =
+    let same : k ≡ n = same_Some k n is in
+    record { fits = lt-ltb n (10 ^ 4) (omega (arith, same, few)); is = ap stage_file (sym same) ∙ (bytes_eq-Decides (stage_file k) name).0 e }
+named_by name k n false e few is = absurd (none-some n is)
+
+pub stage_named-from : (name : List ℕ) (n : ℕ) → stage_named name ≡ Some n → IsNameOf name n
+unfolding stage_named
+stage_named-from name n is =
+    let v = first_of-from (λ k. if bytes_eq (stage_file k) name then Some k else None) (10 ^ 4) n is in
+    named_by name v.number n (bytes_eq (stage_file v.number) name) refl v.below v.is
+
+-- that of a stage tells the stage
 pub stage_named-is : (n : ℕ) → stage_fits n ≡ true → stage_named (stage_file n) ≡ Some n
 unfolding stage_named
 stage_named-is n fits =
     first_of-is (λ k. if bytes_eq (stage_file k) (stage_file n) then Some k else None) (10 ^ 4) n n (ltb-true n (10 ^ 4) fits)
     (ap (λ b. if b then Some n else None) ((bytes_eq-Decides (stage_file n) (stage_file n)).1 refl))
-    (λ i y few e. named_by i n y (bytes_eq (stage_file i) (stage_file n)) refl few fits e)
+    (λ i y few e. let h = named_by (stage_file n) i y (bytes_eq (stage_file i) (stage_file n)) refl few e in stage_file-same y n h.fits fits h.is)
 
--- and makes a path in the directory of records
-stage_name : (q : List ℕ) (n : ℕ) → is_path q ≡ true → length q ≤ 100 → IsNameIn (stages_dir q) (stage_file n)
-stage_name q n path short =
-    let long : length (codes "stages") ≡ 6 = refl in
-    let dir_long : length (stages_dir q) ≡ length q + 7 = length-append q (47 ∷ codes "stages") ∙ omega (arith, long) in
-    let all_long : length (joined (stages_dir q) (stage_file n)) ≡ length q + 17 = length-append (stages_dir q) (47 ∷ stage_file n) ∙ omega (arith, dir_long, length-stage_file n) in
-    let dir : is_path (stages_dir q) ≡ true = is_path-joined q (codes "stages") path (is_path-segment (codes "stages") (omega (arith, long)) refl) (omega (arith, dir_long, short)) in
-    record {
-      segment = is_segment-stage_file n;
-      path = is_path-joined (stages_dir q) (stage_file n) dir (is_path-segment (stage_file n) (omega (arith, length-stage_file n)) (is_segment-stage_file n)) (omega (arith, all_long, short));
-    }
+-- ---- files of the queue that stand
+-- A name makes a path in a directory of the queue,
+name_in : (q folder name : List ℕ) → is_path q ≡ true → length q ≤ 100 → is_segment folder ≡ true → length folder ≤ 6 → is_segment name ≡ true → length name ≤ 32 → IsNameIn (joined q folder) name
+name_in q folder name path short within most segment small =
+    let dir_long : length (joined q folder) ≡ length q + (1 + length folder) = length-append q (47 ∷ folder) ∙ omega arith in
+    let all_long : length (joined (joined q folder) name) ≡ length q + (1 + length folder) + (1 + length name) = length-append (joined q folder) (47 ∷ name) ∙ omega (arith, dir_long) in
+    let dir : is_path (joined q folder) ≡ true = is_path-joined q folder path (is_path-segment folder (omega (arith, most)) within) (omega (arith, dir_long, short, most)) in
+    record { segment = segment; path = is_path-joined (joined q folder) name dir (is_path-segment name (omega (arith, small)) segment) (omega (arith, all_long, short, most, small)) }
+
+-- where a file of the queue stands that is there,
+pub file_stands : (q : List ℕ) → is_path q ≡ true → length q ≤ 100 → (files : Files) (x : QueueFile) (folder name : List ℕ) → joined (joined q folder) name ≡ path_of q x → is_segment folder ≡ true → length folder ≤ 6
+    → is_segment name ≡ true → length name ≤ 32 → IsSome (queue_of q files x) → Stands files (joined q folder) name
+file_stands q path short files x folder name is within most segment small there = record {
+  named = name_in q folder name path short within most segment small;
+  there = ap (λ p. is_some (maps.get files p)) is ∙ ap is_some (holds q files x there).stands;
+}
+
+-- and one that stands is there.
+pub file_there : (q : List ℕ) (files : Files) (x : QueueFile) (dir name : List ℕ) → joined dir name ≡ path_of q x → fits x ≡ true → Stands files dir name → IsSome (queue_of q files x)
+file_there q files x dir name is fit stands = ap is_some (queue_of-fits q files x fit ∙ ap (file_at files) (sym is)) ∙ stands.there
 
 -- ---- a removal that is recorded stood all the while
 module _ (role : Role) (q : List ℕ) (path : is_path q ≡ true) (short : length q ≤ 100) where
   pub record_stands : (files : Files) (r : ℕ) (t : Facts) → stages_in stage_reader q files r ≡ Some t → Stands files (stages_dir q) (stage_file r)
   record_stands files r t is =
-      let h = holds q files (Record r) (has_record stage_reader (queue_of q files) r t is) in
-      record { named = stage_name q r path short; there = ap (λ p. is_some (maps.get files p)) (record_path_is q (stage_file r) r refl) ∙ ap is_some h.stands }
+      let long : length (codes "stages") ≡ 6 = refl in
+      file_stands q path short files (Record r) (codes "stages") (stage_file r) (record_path_is q (stage_file r) r refl) refl (omega (arith, long)) (is_segment-stage_file r) (omega (arith, length-stage_file r))
+      (has_record stage_reader (queue_of q files) r t is)
 
   was_recorded : (files : Files) (a : Act) → Sound stage_reader q files → Allows stage_reader role (Some q) false files a → (r : ℕ) (t : Facts)
       → (stages_in stage_reader q files r ≡ Some t) ⊎ RecordsRemoval stage_reader q a → stages_in stage_reader q files r ≡ Some t

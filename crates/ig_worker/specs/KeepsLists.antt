@@ -1,9 +1,9 @@
 -- The elements of lists, and of the lists that a worker keeps.
-use Rattle.std.specs.Prelude.{◌≡◌, ◌⊎◌, ◌<◌, ◌==◌, ℕ, zero, suc, nat_lt, Bool, true, false, if◌then◌else◌, List, [], ◌∷◌, length, get_or, map, Some, Contains, refl}
+use Rattle.std.specs.Prelude.{◌≡◌, ◌⊎◌, ◌<◌, ◌==◌, ℕ, zero, suc, nat_lt, Bool, true, false, if◌then◌else◌, List, [], ◌∷◌, length, filter, get_or, map, Option, None, Some, IsSome, Contains, refl}
 use Rattle.std.specs.List.{list_any}
-use Rattle.std.proofs.Common.{arith, inl, inr, ap, sym, subst, ◌∙◌}
+use Rattle.std.proofs.Common.{arith, cond, inl, inr, ap, sym, subst, true≢false, ◌∙◌}
 use Rattle.std.proofs.lemmas.Bool.{eqb-true, or_parts}
-use Rattle.std.proofs.lemmas.List.Elements.{Contains-append_right}
+use Rattle.std.proofs.lemmas.List.Elements.{All-contains, All-contains_itself, All-filter, Contains-append_right, filter_passes}
 use Rattle.std.proofs.lemmas.Option.{none-some, same_Some}
 use Rattle.ig_record.specs.declared.stage.Stage.{Stage}
 use Rattle.ig_worker.specs.Stages.{Known, stage_in, with_stage}
@@ -17,6 +17,24 @@ later_in x xs y h = Contains-append_right (x ∷ []) xs y h
 
 pub none_in : {A : Type 0} (y : A) → Contains [] y → ⊥
 none_in y h = absurd (omega (arith, h.1))
+
+-- a list without an element
+pub is_empty : {A : Type 0} (xs : List A) → ((x : A) → Contains xs x → ⊥) → xs ≡ []
+is_empty [] none = refl
+is_empty (x ∷ xs) none = absurd (none x (first_in x xs))
+
+pub none_in_both : {A : Type 0} (y : A) → Contains [] y ⊎ Contains [] y → ⊥
+none_in_both y (inl h) = none_in y h
+none_in_both y (inr h) = none_in y h
+
+-- what is there, and that nothing is
+pub some_of : {A : Type 0} (o : Option A) → IsSome o → (x : A) × (o ≡ Some x)
+some_of (Some x) there = (x, refl)
+some_of None there = absurd (true≢false (sym there))
+
+pub none_of : {A : Type 0} (o : Option A) → (IsSome o → ⊥) → o ≡ None
+none_of None no_way = refl
+none_of (Some x) no_way = absurd (no_way refl)
 
 first_or_later : {A : Type 0} (x y : A) (xs : List A) (k : ℕ) → k < length (x ∷ xs) → get_or (x ∷ xs) k y ≡ y → (x ≡ y) ⊎ Contains xs y
 first_or_later x y xs zero below is = inl is
@@ -47,6 +65,24 @@ image_by f x xs y later (inr h) = let i = later h in record { item = i.item; amo
 pub image_of : {A B : Type 0} (f : A → B) (xs : List A) (y : B) → Contains (map f xs) y → IsImage f xs y
 image_of f [] y h = absurd (none_in y h)
 image_of f (x ∷ xs) y h = image_by f x xs y (image_of f xs y) (in_cases (f x) (map f xs) y h)
+
+-- ---- the elements that pass a test
+-- are those of the list that pass it
+pub kept_from : {A : Type 0} (p : A → Bool) (xs : List A) (x : A) → Contains (filter p xs) x → Contains xs x × (p x ≡ true)
+kept_from p xs x among = (
+  All-contains (Contains xs) (filter p xs) x (All-filter p (Contains xs) xs (All-contains_itself xs)) among,
+  All-contains (λ y. p y ≡ true) (filter p xs) x (filter_passes p xs) among,
+)
+
+pub kept_in : {A : Type 0} (p : A → Bool) (xs : List A) (x : A) → Contains xs x → p x ≡ true → Contains (filter p xs) x
+kept_in p [] x among passes = absurd (none_in x among)
+kept_in p (y ∷ ys) x among passes = by_test (p y) refl (λ h. kept_in p ys x h passes) (in_cases y ys x among)
+  where
+    by_test : (b : Bool) → p y ≡ b → (Contains ys x → Contains (filter p ys) x) → (y ≡ x) ⊎ Contains ys x → Contains (cond b (y ∷ filter p ys) (filter p ys)) x
+    by_test true is later (inl e) = subst (λ z. Contains (y ∷ filter p ys) z) e (first_in y (filter p ys))
+    by_test true is later (inr h) = later_in y (filter p ys) x (later h)
+    by_test false is later (inl e) = absurd (true≢false (sym passes ∙ ap p (sym e) ∙ is))
+    by_test false is later (inr h) = later h
 
 -- ---- a test that no element passes
 passes_none : {A : Type 0} (p : A → Bool) (x : A) (xs : List A) (y : A) → (p x ≡ false) × (list_any p xs ≡ false) → (list_any p xs ≡ false → Contains xs y → p y ≡ false) → (x ≡ y) ⊎ Contains xs y → p y ≡ false

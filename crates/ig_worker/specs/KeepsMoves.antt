@@ -144,7 +144,7 @@ module _ (role : Role) (from to : ℕ) (notes : Notes) (start : Files) (others :
       along notes.plan.queue start others a m _ leads.is (λ takes.
       looked notes.plan.queue start others a _ _ takes.0 (record {
         may = tt;
-        known = fetched_known notes name paths given names (replay start others) fit ready known leads.path leads.next leads.found takes.1;
+        known = fetched_known notes name paths given names (replay start others) fit ready now_sound known leads.path leads.next leads.found takes.1;
       }))
 
   lists_dead : Knows (stands notes ListingDead) (replay start others) → ListsDead notes m → Goes

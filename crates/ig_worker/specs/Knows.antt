@@ -1,5 +1,5 @@
 -- What a worker knows of the files.
-use Rattle.std.specs.Prelude.{◌-◌, ℕ, Bool, true, false, List, [], ◌∷◌, length, map, take, Option, None, Some}
+use Rattle.std.specs.Prelude.{◌-◌, ℕ, Bool, not, true, false, List, [], ◌∷◌, length, filter, map, take, Option, None, Some}
 use Rattle.ig_defs.specs.declared.queue_name.QueueName.{QueueName}
 use Rattle.ig_defs.specs.Files.{Files}
 use Rattle.ig_defs.specs.Own.{File}
@@ -10,7 +10,7 @@ use Rattle.ig_record.specs.declared.stage.Stage.{Stage}
 use Rattle.ig_record.specs.Columns.{paths_of}
 use Rattle.ig_rule.specs.Known.{KeptStage, Lease, Memory}
 use Rattle.ig_rule.specs.Known as rule
-use Rattle.ig_task.specs.Facts.{facts_of, stage_reader}
+use Rattle.ig_task.specs.Facts.{facts_of, is_scratch, stage_reader}
 use Rattle.ig_worker.specs.declared.phase.Phase.{Phase}
 use Rattle.ig_worker.specs.declared.phase.Phase.TheVariants.{Starting, Learning, Asking, Trying, Fetching, Running, Finishing, Closing, ListingDead, ListingDone, Telling, Over, Broken}
 use Rattle.ig_worker.specs.Places.{State}
@@ -29,6 +29,13 @@ abbrev pub found_files : List Input → List File
 found_files [] = []
 found_files (input ∷ given) = with_file input.path input.found (found_files given)
 
+-- those of them that are of its source, and those that earlier passes made
+abbrev pub of_source : Stage → List File → List File
+of_source s files = filter (λ file. not (is_scratch s file.path)) files
+
+abbrev pub of_passes : Stage → List File → List File
+of_passes s files = filter (λ file. is_scratch s file.path) files
+
 -- the files that are to be put
 abbrev pub made_files : List Output → List File
 made_files [] = []
@@ -39,7 +46,7 @@ abbrev pub finished_paths : List (List ℕ) → List Output → List (List ℕ)
 finished_paths paths outputs = take (length paths - length outputs) paths
 
 abbrev pub fetched_lease : QueueName → List Input → Stage → Lease
-fetched_lease name given s = record { id = task_of name; stage = facts_of name.stage s; sources = found_files given; scratch = []; outputs = []; finished = [] }
+fetched_lease name given s = record { id = task_of name; stage = facts_of name.stage s; sources = of_source s (found_files given); scratch = of_passes s (found_files given); outputs = []; finished = [] }
 
 abbrev pub made_lease : QueueName → List Output → Stage → Lease
 made_lease name outputs s = record { id = task_of name; stage = facts_of name.stage s; sources = []; scratch = []; outputs = made_files outputs; finished = finished_paths (paths_of s name.task) outputs }

@@ -23,7 +23,6 @@ pub mod KeepsFiles
 pub mod KeepsKnown
 pub mod KeepsListing
 pub mod KeepsRecords
-pub mod KeepsInputs
 pub mod KeepsLeases
 pub mod KeepsNames
 pub mod KeepsTasks
@@ -58,7 +57,6 @@ pub mod CanFinish
 pub mod AloneGoing
 pub mod AloneJobs
 pub mod AloneCalls
-pub mod AloneNames
 pub mod AloneListings
 pub mod AloneOrder
 pub mod AloneRounds

@@ -7,6 +7,7 @@ mod calls;
 mod counting;
 mod ending;
 mod error;
+mod laws;
 mod learning;
 mod next;
 mod notes;
@@ -24,6 +25,7 @@ mod worker;
 
 pub use ahead::Ahead;
 pub use error::WorkerError;
+pub use laws::worker_alone_finishes;
 pub use next::Next;
 pub use notes::Notes;
 pub use phase::{Phase, Then};

@@ -1,4 +1,4 @@
-use Rattle.ig_task.specs.MadeOutputs.{outputs-are_wanted}
+use Rattle.ig_task.specs.GivenPasses.{outputs-are_wanted}
 use Rattle.ig_task.proofs.laws.outputs_are_wanted.Goals as goal
 
 pub returns : goal.returns

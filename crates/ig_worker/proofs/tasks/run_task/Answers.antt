@@ -2,7 +2,8 @@ use Rattle.std.proofs.Common.{List, Result, IfOk, sym, subst, ◌∙◌}
 use Rattle.std.proofs.lemmas.Result.{err_from_is_err_and}
 use Rattle.ig_cutout.specs.declared.types.Output.{Output}
 use Rattle.ig_worker.specs.declared.turn.Why.{Why}
-use Rattle.ig_worker.specs.Acting.{AreOutputs, BuriesRefused, outcome_of}
+use Rattle.ig_task.specs.Wanted.{AreOutputs}
+use Rattle.ig_worker.specs.Acting.{BuriesRefused, outcome_of}
 use Rattle.ig_worker.specs.Moves.{HandsOver, IsOutcome, Makes, Refuses, RunsTask}
 use Rattle.ig_worker.proofs.Leading.{goes_if, led_as, led_before, led_error}
 use Rattle.ig_worker.proofs.Runs.{known-sound}
