@@ -183,11 +183,7 @@ fn request_of(kind: Kind, source: Path, dest: Option<Path>, sizes: Sizes) -> Req
 }
 
 /// SRC DEST, and these options.
-fn with_new_layer(
-    alloc: Global,
-    kind: Kind,
-    parts: &Parts,
-) -> Result<Option<Request>, AllocError>
+fn with_new_layer(alloc: Global, kind: Kind, parts: &Parts) -> Result<Option<Request>, AllocError>
     requires come { has_come kind ≡ true }
     requires makes { kind ≢ Remove }
     ensures value { IfOk result (λ request. option_map shown_request request ≡ request_between true kind (shown parts.now).options (shown parts.now).rest) }
@@ -207,11 +203,7 @@ fn with_new_layer(
 }
 
 /// SRC, and these options.
-fn with_source(
-    alloc: Global,
-    kind: Kind,
-    parts: &Parts,
-) -> Result<Option<Request>, AllocError>
+fn with_source(alloc: Global, kind: Kind, parts: &Parts) -> Result<Option<Request>, AllocError>
     requires come { has_come kind ≡ true }
     requires makes { kind ≢ Remove }
     requires none { writes_layer kind ≡ false }
@@ -231,11 +223,7 @@ fn with_source(
 }
 
 /// The stage of this kind that these parts of words ask for.
-fn request_in(
-    alloc: Global,
-    kind: Kind,
-    parts: &Parts,
-) -> Result<Option<Request>, AllocError>
+fn request_in(alloc: Global, kind: Kind, parts: &Parts) -> Result<Option<Request>, AllocError>
     requires come { has_come kind ≡ true }
     requires makes { kind ≢ Remove }
     ensures value { IfOk result (λ request. option_map shown_request request ≡ request_in kind (shown parts.now)) }
@@ -296,11 +284,7 @@ fn command_with(
 }
 
 /// What these parts of the words after those that name a kind ask for.
-fn command_in(
-    alloc: Global,
-    kind: Kind,
-    parts: &Parts,
-) -> Result<Option<Command>, AllocError>
+fn command_in(alloc: Global, kind: Kind, parts: &Parts) -> Result<Option<Command>, AllocError>
     requires come { has_come kind ≡ true }
     requires makes { kind ≢ Remove }
     ensures value { IfOk result (λ command. option_map shown_command command ≡ command_in kind (shown parts.now)) }
@@ -316,11 +300,7 @@ fn command_in(
 }
 
 /// What the words after those that name a kind ask for.
-fn command_as(
-    alloc: Global,
-    kind: Kind,
-    words: &[String],
-) -> Result<Option<Command>, AllocError>
+fn command_as(alloc: Global, kind: Kind, words: &[String]) -> Result<Option<Command>, AllocError>
     requires come { has_come kind ≡ true }
     requires makes { kind ≢ Remove }
     ensures value { IfOk result (λ command. option_map shown_command command ≡ command_as kind (texts_of words.now)) }

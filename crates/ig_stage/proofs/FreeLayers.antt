@@ -1,7 +1,7 @@
 -- What a maker knows of the place of a new stage once it has looked.
 use Rattle.std.proofs.Common.{arith, inl, inr, ◌⊎◌, ◌≡◌, ◌<◌, ◌≤◌, ◌+◌, ◌∙◌, ℕ, Bool, true, false, List, [], ◌∷◌, Option, None, Some, is_some, Contains, length, slice_get, get_or, codes, Result, refl, ap, sym, subst, true≢false}
 use Rattle.std.specs.Prelude.{option_map}
-use Rattle.std.proofs.lemmas.Option.{get_or_from_slice_get, none-some, slice_get-get_or}
+use Rattle.std.proofs.lemmas.Option.{get_or_from_slice_get, slice_get-get_or}
 use Rattle.ig_defs.specs.declared.step.Step.{Step}
 use Rattle.ig_defs.specs.Files.{Files, file_at}
 use Rattle.ig_defs.specs.Log.{Log, ByOthers, after, files_of}
@@ -17,9 +17,6 @@ use Rattle.ig_record.specs.declared.stage.InfoFile.{InfoFile}
 use Rattle.ig_record.specs.declared.stage.Kind.{Kind}
 use Rattle.ig_record.specs.declared.stage.Kind.TheVariants.{Remove}
 use Rattle.ig_record.specs.declared.stage.Stage.{Stage}
-use Rattle.ig_record.specs.Sound.{is_sound}
-use Rattle.ig_record.specs.SoundRows.{IsSoundKind, is_xfer, is_count, is_remove}
-use Rattle.ig_record.specs.SoundStages.{sound-kind}
 use Rattle.ig_record.specs.Columns.{needs_fresh_info, output_dirs, removed_by, removed_dir}
 use Rattle.ig_rule.specs.Dirs.{LiesIn}
 use Rattle.ig_rule.specs.DirPaths.{dir_is, dir_within, listed_in}
@@ -33,7 +30,7 @@ use Rattle.ig_rule.specs.WentOn.{went_of}
 use Rattle.ig_rule.specs.Went.{Went}
 use Rattle.ig_space.specs.Path.{joined}
 use Rattle.ig_task.specs.Facts.{facts_of, stage_reader}
-use Rattle.ig_task.specs.Kinds.{kinds}
+use Rattle.ig_task.specs.Kinds.{kinds, named_info}
 use Rattle.ig_task.specs.Maker.{IsPathOfNone, KnowsStages, Others}
 use Rattle.ig_task.specs.MakerLaws.{KnowsFile, file_keeps, knows_went, same_file}
 use Rattle.ig_task.specs.Pipeline.{is_allowed}
@@ -97,15 +94,6 @@ module _ (q : List ℕ) (stages : List Stage) (files : Files) (k : KnowsStages q
       not_the_info s t n (laws_known q stages files k n t is) (not_taken stages s free n t is) info has name
 
 -- ---- outside the queue
-
--- the info of a sound stage is called `info`
-pub named_info : (s : Stage) (info : InfoFile) → is_sound s ≡ true → s.info ≡ Some info → IsInfoName info.path
-named_info s info sound has = by_kind s info (sound-kind s sound) has
-  where
-    by_kind : (s : Stage) (info : InfoFile) → IsSoundKind s → s.info ≡ Some info → IsInfoName info.path
-    by_kind s info (is_xfer copies no_scratch c) is = let same : c.put ≡ info = cc in record { dir = c.layer; is = ap (λ (i : InfoFile). i.path) (sym same) ∙ c.path_is }
-    by_kind s info (is_count counts scratch at c) is = absurd (none-some info (sym c.no_info ∙ is))
-    by_kind s info (is_remove removes no_scratch c) is = let no_way : ⊥ = cc in absurd no_way
 
 pub info_apart : (q : List ℕ) (s : Stage) (n : ℕ) → IsOutsideQueue q (facts_of n s) → (info : InfoFile) → s.info ≡ Some info → IsApartFrom q info.path
 info_apart q s n outside info has = λ x is. (outside.info (file_of info) (ap (option_map file_of) has)).not_within _ is
@@ -216,7 +204,7 @@ is_free {T = T} request rule now q stages s making next old new result same laye
       let own = fresh_is s info has in
       looks_same {T = T} now q stages making next old new result looks here info.path
       (info_apart q s 0 outside info own)
-      (info_of_none q stages (files_of old) k.knows s free info own (named_info s info can.sound own))
+      (info_of_none q stages (files_of old) k.knows s free info own (named_info s can.sound info own))
       ∙ fresh info has;
   empty = λ path l.
       empty here l.dir (subst (λ (ds : List (List ℕ)). Contains ds l.dir) (sym are) l.one) path l.lies

@@ -23,7 +23,7 @@ use Rattle.ig_rule.specs.Went.{WentPut}
 use Rattle.ig_rule.specs.WentOn.{acted_legal, idled_legal}
 use Rattle.ig_rule.specs.declared.role.Role.TheVariants.{Maker}
 use Rattle.ig_task.specs.Facts.{stage_reader}
-use Rattle.ig_task.specs.Kinds.{kinds}
+use Rattle.ig_task.specs.Kinds.{kinds, named_info}
 use Rattle.ig_task.specs.Maker.{IsPathOfNone, Others}
 use Rattle.ig_task.specs.MakerLaws.{file_keeps, knows_keep}
 use Rattle.ig_task.specs.NewRecords.{opens_record, puts_record}
@@ -31,7 +31,7 @@ use Rattle.ig_task.specs.Pipeline.{is_allowed}
 use Rattle.ig_task.specs.declared.pipeline.Pipeline.{Pipeline}
 use Rattle.ig_stage.specs.Made.{CanRecord, MayRecord}
 use Rattle.ig_stage.specs.Open.{IsOpen, maker_rule}
-use Rattle.ig_stage.proofs.FreeLayers.{fresh_is, info_apart, info_of_none, named_info, output_of_none}
+use Rattle.ig_stage.proofs.FreeLayers.{fresh_is, info_apart, info_of_none, output_of_none}
 
 -- ---- what others keep
 
@@ -47,7 +47,7 @@ module _ (q : List ℕ) (stages : List Stage) (s : Stage) (files : Files) (a : A
       no_info = λ info fresh.
           let has = fresh_is s info fresh in
           still_none info.path (info_apart q s (length stages) can.outside info has)
-          (info_of_none q stages files can.free.knows s can.not_taken info has (named_info s info can.sound has)) (can.free.no_info info fresh);
+          (info_of_none q stages files can.free.knows s can.not_taken info has (named_info s can.sound info has)) (can.free.no_info info fresh);
       empty = λ path l.
           still_none path (λ x is. no_queue_path q l.dir path x (can.outside.outputs l.dir l.one) l.lies is)
           (output_of_none q stages files can.free.knows s can.not_taken l.dir path l.one l.lies) (can.free.empty path l);

@@ -89,11 +89,7 @@ fn check_info<S: Store<Pipeline>>(store: &mut S, stage: &Stage) -> Result<(), Ma
 }
 
 /// Looks whether an output directory has no files.
-fn check_dir<S: Store<Pipeline>>(
-    alloc: Global,
-    store: &mut S,
-    dir: &Path,
-) -> Result<(), MakeError>
+fn check_dir<S: Store<Pipeline>>(alloc: Global, store: &mut S, dir: &Path) -> Result<(), MakeError>
     ensures rule { S.rule store.new ≡ S.rule store.old }
     ensures cause { HasCauseFor (S.faults store.old) (S.faults store.new) (ending_of result) }
     ensures empty { S.tells → (q : list ℕ) (stages : list meaning.Stage) → KnowsQueue (S.rule store.old) q stages (files_of (S.log store.old)) → OnOk result (IsEmptyDir q stages dir.now (files_of (S.log store.new))) }

@@ -203,12 +203,7 @@ fn plan_copy(alloc: Global, request: &Request, scale: &Scale) -> Result<Stage, M
 }
 
 /// The directory of the passes of a scale, under this name in its layer.
-fn scratch_of(
-    alloc: Global,
-    layer: &Path,
-    name: &str,
-    scale: &Scale,
-) -> Result<Path, AllocError>
+fn scratch_of(alloc: Global, layer: &Path, name: &str, scale: &Scale) -> Result<Path, AllocError>
     requires layer { length layer.now ≤ 100 }
     requires name { is_path name.now ≡ true }
     requires short { length name.now ≤ 6 }

@@ -3,6 +3,7 @@ use Rattle.std.specs.Prelude.{◌≡◌, ◌≢◌, ℕ, true, List, Option, Non
 use Rattle.std.proofs.Common.{ap, sym, subst, ◌∙◌, true≢false}
 use Rattle.std.proofs.lemmas.Option.{none-some, same_Some}
 use Rattle.ig_defs.specs.Own.{File}
+use Rattle.ig_record.specs.declared.stage.InfoFile.{InfoFile}
 use Rattle.ig_record.specs.declared.stage.Kind.TheVariants.{Remove}
 use Rattle.ig_record.specs.declared.stage.Stage.{Stage}
 use Rattle.ig_record.specs.Reading.{record_in}
@@ -14,7 +15,7 @@ use Rattle.ig_record.specs.SoundRows.{IsSoundKind, is_count, is_remove, is_xfer}
 use Rattle.ig_meaning.specs.ChunkPlaces.{chunk-lies, chunk-not_info, is_chunk_of-from, is_chunk_of-is}
 use Rattle.ig_meaning.specs.Jobs.{file_of}
 use Rattle.ig_meaning.specs.Lasting.{wanted-lasts}
-use Rattle.ig_rule.specs.Facts.{Facts, KindLaws, Pass, StageLaws}
+use Rattle.ig_rule.specs.Facts.{Facts, IsInfoName, KindLaws, Pass, StageLaws}
 use Rattle.ig_task.specs.Copies.{copy-makes_files}
 use Rattle.ig_task.specs.Counts.{count-makes_files}
 use Rattle.ig_task.specs.Facts.{facts_of, stage_reader}
@@ -89,6 +90,10 @@ laws_by n s h (removes is r) = removal-laws n s h is r
 -- What a sound stage keeps.
 pub stage-laws : (n : ℕ) (s : Stage) → is_sound s ≡ true → StageLaws (facts_of n s)
 stage-laws n s sound = laws_by n s (IsSound-from s sound) (kind-facts s sound)
+
+-- Its info is called `info`.
+pub named_info : (s : Stage) → is_sound s ≡ true → (info : InfoFile) → s.info ≡ Some info → IsInfoName info.path
+named_info s sound info has = (stage-laws 0 s sound).info_name (file_of info) (ap (option_map file_of) has)
 
 -- ---- of records
 -- the facts are those of a sound stage

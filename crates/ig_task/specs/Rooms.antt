@@ -2,7 +2,6 @@
 use Rattle.std.specs.Prelude.{◌≡◌, ℕ, Bool, true, false, List, Option, None, Some, Ok, is_some, option_map, slice_get, Contains, codes, refl}
 use Rattle.std.specs.List.{All}
 use Rattle.std.proofs.Common.{ap, sym, subst, true≢false, ◌∙◌}
-use Rattle.std.proofs.lemmas.Option.{none-some}
 use Rattle.std.proofs.lemmas.Option.{get_or_from_slice_get, slice_get_within}
 use Rattle.ig_space.specs.Path.{joined}
 use Rattle.ig_defs.specs.Files.{Files, file_at}
@@ -12,8 +11,6 @@ use Rattle.ig_record.specs.declared.stage.Kind.{Kind}
 use Rattle.ig_record.specs.declared.stage.Kind.TheVariants.{Remove}
 use Rattle.ig_record.specs.declared.stage.Stage.{Stage}
 use Rattle.ig_record.specs.Sound.{is_sound}
-use Rattle.ig_record.specs.SoundRows.{IsSoundKind, is_xfer, is_count, is_remove}
-use Rattle.ig_record.specs.SoundStages.{sound-kind}
 use Rattle.ig_record.specs.Columns.{needs_fresh_info, output_dirs, removed_by, removed_dir}
 use Rattle.ig_meaning.specs.Plan.{planned}
 use Rattle.ig_meaning.specs.Making.{fresh_info, info_if}
@@ -29,6 +26,7 @@ use Rattle.ig_rule.specs.QueueFiles.{queue_of}
 use Rattle.ig_rule.specs.Room.{AreApart, IsNotRemovedBy, IsOutsideQueue, Room}
 use Rattle.ig_rule.specs.Stages.{stages_in}
 use Rattle.ig_task.specs.Facts.{facts_of, stage_reader}
+use Rattle.ig_task.specs.Kinds.{named_info}
 use Rattle.ig_task.specs.Maker.{KnowsStages}
 
 -- ---- the info
@@ -64,17 +62,6 @@ outside-planned q earlier request bytes s m is apart =
 
 -- ---- apart from an earlier stage
 
--- the info of a sound stage is called `info`
-info_name : (s : Stage) (info : InfoFile) → IsSoundKind s → s.info ≡ Some info → IsInfoName info.path
-info_name s info (is_xfer copies no_scratch c) is =
-    let same : c.put ≡ info = cc in
-    record { dir = c.layer; is = ap (λ (i : InfoFile). i.path) (sym same) ∙ c.path_is }
-info_name s info (is_count counts scratch at c) is = absurd (none-some info (sym c.no_info ∙ is))
-info_name s info (is_remove removes no_scratch c) is = absurd (none_some s.info info c.no_info is)
-  where
-    none_some : (o : Option InfoFile) (i : InfoFile) → o ≡ None → o ≡ Some i → ⊥
-    none_some o i none some = absurd (cc)
-
 -- it lies in no directory of which it is not the info
 lies_in_none : (info : InfoFile) (dirs : List (List ℕ)) → IsInfoName info.path → ((dir : List ℕ) → Contains dirs dir → info.path ≡ joined dir (codes "info") → ⊥) → LiesInOne dirs info.path → ⊥
 lies_in_none info dirs name none l =
@@ -84,7 +71,7 @@ info_in_none : (s : Stage) (dirs : List (List ℕ)) → is_sound s ≡ true → 
     → (file : File) → option_map file_of s.info ≡ Some file → LiesInOne dirs file.path → ⊥
 info_in_none s dirs sound none file e lies =
     let i = info_of s.info file e in
-    lies_in_none i.info dirs (info_name s i.info (sound-kind s sound) i.is) (none i.info i.is) (subst (λ (f : File). LiesInOne dirs f.path) (sym i.file_is) lies)
+    lies_in_none i.info dirs (named_info s sound i.info i.is) (none i.info i.is) (subst (λ (f : File). LiesInOne dirs f.path) (sym i.file_is) lies)
 
 apart-earlier : (s t : Stage) (m n : ℕ) → is_sound s ≡ true → is_sound t ≡ true → HasNoneOf t s → AreApart (facts_of m s) (facts_of n t)
 apart-earlier s t m n sound sound' h = record {

@@ -142,7 +142,10 @@ fn made(alloc: Global, stage: &Stage, task: u32, given: &Inputs) -> Result<Outpu
 {
     match stage.kind {
         Kind::Remove => Ok(removals(alloc, stage, task)?),
-        _ => files(alloc, stage, task, given),
+        Kind::Xfer | Kind::Downsample | Kind::Faces | Kind::Links | Kind::Labels => {
+            files(alloc, stage, task, given)
+        }
+        Kind::Relabel | Kind::Count | Kind::Sum => files(alloc, stage, task, given),
     }
 }
 
