@@ -4,3 +4,5 @@ pub mod Progress
 pub mod Requeued
 -- what the paths of the files are made of
 pub mod FilesAt
+-- what is read of names
+pub mod NamesRead
