@@ -1,5 +1,5 @@
 -- What a listing shows of the tasks in a queue: this project's own.
-use Rattle.std.specs.Prelude.{ℕ, ◌+◌, ◌-◌, ◌*◌, ◌&&◌, nat_le, if◌then◌else◌, List, Option, None, Some, count_by, drop, filter_map, fold, length, take}
+use Rattle.std.specs.Prelude.{ℕ, Bool, ◌+◌, ◌-◌, ◌*◌, ◌&&◌, nat_le, if◌then◌else◌, List, Option, None, Some, count_by, drop, filter_map, fold, length, take}
 use Rattle.std.specs.Str.{bytes_eq}
 use Rattle.ig_defs.specs.declared.queue_name.QueueName.{QueueName}
 use Rattle.ig_defs.specs.QueueNames.{queue_file, queue_fits}
@@ -26,9 +26,13 @@ name_in text = if queue_fits (fields text) && bytes_eq (queue_file (fields text)
 abbrev pub names_in : List (List ℕ) → List QueueName
 names_in listing = filter_map name_in listing
 
+-- the task of this name may be leased at this second
+abbrev pub may_be_leased : ℕ → QueueName → Bool
+may_be_leased now name = nat_le name.visible now
+
 -- how many there are, and how many of them may be leased at this second
 abbrev pub progress_of : List (List ℕ) → ℕ → Progress
 progress_of listing now = record {
   listed = length (names_in listing);
-  visible = count_by (λ name. nat_le name.visible now) (names_in listing);
+  visible = count_by (may_be_leased now) (names_in listing);
 }
