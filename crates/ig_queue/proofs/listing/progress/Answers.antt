@@ -1,4 +1,4 @@
-use Rattle.std.proofs.Common.{arith, rules, ◌+◌, ◌∙◌, true, false, add-zero, sym}
+use Rattle.std.proofs.Common.{arith, rules, ◌∙◌, true, false, add-zero, sym}
 use Rattle.std.proofs.lemmas.Bool.{le-leb, lt-leb}
 use Rattle.ig_queue.proofs.Counted.{few_listed, few_visible, front_more, none_more, one_more}
 use Rattle.ig_queue.proofs.listing.progress.Goals as goal
