@@ -1,6 +1,6 @@
-//! A queue of tasks as files of a store: the names and paths of its files, which tasks may be leased, and the moves by which
-//! a task is leased, done or a dead letter. The definitions of the names stand in `ig_defs`, what moves are allowed in
-//! `ig_rule`.
+//! A queue of tasks as files of a store: the names and paths of its files, which tasks may be leased, how far it has come, and
+//! the moves by which a task is leased, done or a dead letter, and may be leased again. The definitions of the names stand in
+//! `ig_defs`, what moves are allowed in `ig_rule`.
 #![tactic(auto)]
 
 mod digits;
