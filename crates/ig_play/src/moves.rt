@@ -3,9 +3,12 @@ ghost use Rattle.std.specs.Prelude.{◌≡◌, ◌≤◌, length, true};
 ghost use Rattle.ig_defs.specs.QueueNames.{queue_fits};
 
 use crate::names::queue_text;
-use crate::store::{Memory, closed, opened};
+use crate::store::{Memory, closed, opened, whether};
 use crate::{Told, World};
-use ig_queue::{Closed, Lease, QueueName, bury, complete, lease, parse_queue_name};
+use ig_queue::{
+    Closed, Lease, QueueName, bury, complete, lease, parse_queue_name, parse_task_name, release,
+    revive,
+};
 use ig_space::Path;
 use ig_store::StoreError;
 use std::alloc::{AllocError, Global};
@@ -54,10 +57,14 @@ fn answer(
         let word = closed_word(bury(alloc, store, queue, name));
         return Ok(Some(String::from_str(alloc, word)?));
     }
+    if word == "release" {
+        let word = whether(release(alloc, store, queue, name));
+        return Ok(Some(String::from_str(alloc, word)?));
+    }
     Ok(None)
 }
 
-/// `lease QUEUE NAME`, for 600 seconds, `complete QUEUE NAME` or `bury QUEUE NAME`.
+/// `lease QUEUE NAME`, for 600 seconds, `complete QUEUE NAME`, `bury QUEUE NAME` or `release QUEUE NAME`.
 pub(crate) fn ask_move(
     world: &mut World,
     word: &str,
@@ -75,4 +82,22 @@ pub(crate) fn ask_move(
     let answer = answer(alloc, &mut store, &queue, word, name, world.second)?;
     let told = answer.map(|answer| Told::new(alloc, answer));
     closed(world, store, told)
+}
+
+/// `revive QUEUE NAME`.
+pub(crate) fn ask_revive(
+    world: &mut World,
+    queue: &str,
+    text: &str,
+) -> Result<Option<Told>, AllocError> {
+    let alloc = world.alloc;
+    let (Some(id), Some(queue)) = (parse_task_name(text), Path::new(alloc, queue)?) else {
+        return Ok(None);
+    };
+    if queue.len() > 100 {
+        return Ok(None);
+    }
+    let mut store = opened(world)?;
+    let told = Told::of(alloc, whether(revive(alloc, &mut store, &queue, id)))?;
+    closed(world, store, Some(told))
 }

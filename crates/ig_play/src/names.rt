@@ -2,8 +2,8 @@
 use crate::Told;
 use crate::numbers::point_text;
 use ig_queue::{
-    QueueName, candidates, parse_queue_name, parse_stage_name, parse_task_name, queue_name,
-    stage_name, task_name,
+    QueueName, candidates, parse_queue_name, parse_stage_name, parse_task_name, progress,
+    queue_name, stage_name, task_name,
 };
 use ig_space::{Names, Path, Text, TryClone, chunk_name, parse_chunk_name};
 use std::alloc::{AllocError, Global};
@@ -85,16 +85,32 @@ pub(crate) fn ask_join(alloc: Global, dir: &str, name: &str) -> Result<Option<To
     }))
 }
 
-/// `candidates NOW NAME..`: the names that may be leased at this second, in order.
-pub(crate) fn ask_candidates(alloc: Global, now: u64, names: &[&str]) -> Result<Told, AllocError> {
+/// A listing that gave these names.
+fn listing(alloc: Global, names: &[&str]) -> Result<Names, AllocError> {
     let mut listed = Names::new(alloc);
     for name in names {
         listed.push(Text::of(alloc, name)?)?;
     }
+    Ok(listed)
+}
+
+/// `candidates NOW NAME..`: the names that may be leased at this second, in order.
+pub(crate) fn ask_candidates(alloc: Global, now: u64, names: &[&str]) -> Result<Told, AllocError> {
+    let listed = listing(alloc, names)?;
     let mut told = Told::of(alloc, "listed")?;
     for name in candidates(alloc, &listed, now)?.as_slice() {
         let text = queue_text(alloc, *name)?;
         told.say(text.as_str())?;
     }
     Ok(told)
+}
+
+/// `progress NOW NAME..`: how many names of tasks there are, and how many of them may be leased at this second.
+pub(crate) fn ask_progress(alloc: Global, now: u64, names: &[&str]) -> Result<Told, AllocError> {
+    let found = progress(&listing(alloc, names)?, now);
+    let (listed, visible) = (found.listed, found.visible);
+    Ok(Told::new(
+        alloc,
+        format!(in alloc; "listed {listed} visible {visible}")?,
+    ))
 }

@@ -5,10 +5,10 @@ use crate::files::{ask_count, ask_file};
 use crate::globals::{ask_number, ask_parts as ask_whole, ask_total, ask_walk};
 use crate::infos::{ask_dest, ask_longer, ask_read, ask_write};
 use crate::mips::{ask_mips, ask_mode, ask_row};
-use crate::moves::ask_move;
+use crate::moves::{ask_move, ask_revive};
 use crate::names::{
-    ask_candidates, ask_chunk_name, ask_join, ask_path, ask_queue_name, ask_stage_name,
-    ask_task_name,
+    ask_candidates, ask_chunk_name, ask_join, ask_path, ask_progress, ask_queue_name,
+    ask_stage_name, ask_task_name,
 };
 use crate::numbers::{point, small};
 use crate::parts::{ask_label, ask_runs};
@@ -55,8 +55,11 @@ fn ask_pair(world: &mut World, word: &str, first: &str, second: &str) -> Answer 
     if word == "join" {
         return ask_join(world.alloc, first, second);
     }
-    if word == "lease" || word == "complete" || word == "bury" {
+    if word == "lease" || word == "complete" || word == "bury" || word == "release" {
         return ask_move(world, word, first, second);
+    }
+    if word == "revive" {
+        return ask_revive(world, first, second);
     }
     ask_two(world, word, first, second)
 }
@@ -218,6 +221,9 @@ fn ask_passes(world: &mut World, word: &str, rest: &[&str]) -> Answer {
 fn ask_list(world: &World, word: &str, rest: &[&str]) -> Answer {
     if word == "candidates" {
         return Ok(Some(ask_candidates(world.alloc, world.second, rest)?));
+    }
+    if word == "progress" {
+        return Ok(Some(ask_progress(world.alloc, world.second, rest)?));
     }
     if word == "mode4" || word == "mode_row" {
         return ask_modes(world.alloc, word, rest);

@@ -24,7 +24,7 @@ fn refusal(error: StoreError) -> &'static str {
 }
 
 /// What a call answers that tells whether a file was there.
-fn whether(answer: Result<bool, StoreError>) -> &'static str {
+pub(crate) fn whether(answer: Result<bool, StoreError>) -> &'static str {
     match answer {
         Ok(true) => "true",
         Ok(false) => "false",

@@ -1,3 +1,4 @@
+pub mod Counted
 pub mod DueNames
 pub mod Marks
 pub mod Moving

@@ -1,6 +1,7 @@
 -- A move of a name in the queue: what is said of it where it wasn't begun, and that it leaves a legal log.
 use Rattle.std.proofs.Common.{arith, ◌≡◌, ◌<◌, ◌+◌, ◌^◌, ℕ, min, Bool, true, false, if◌then◌else◌, ◌&&◌, nat_lt, List, [], ◌∷◌, None, Some, is_some, IsErrAnd, Result, Ok, Err, inl, inr, refl, ap, sym, subst, ◌∙◌}
 use Rattle.std.proofs.lemmas.Bool.{and_parts, and_from, lt-ltb}
+use Rattle.ig_space.specs.declared.task_id.TaskId.{TaskId}
 use Rattle.ig_defs.specs.declared.error.StoreError.{StoreError}
 use Rattle.ig_defs.specs.declared.error.StoreError.TheVariants.{Failed, Memory}
 use Rattle.ig_defs.specs.declared.queue_name.QueueName.{QueueName}
@@ -15,13 +16,14 @@ use Rattle.ig_defs.specs.TurnLaws.{idled_nothing}
 use Rattle.ig_defs.specs.Turns.{Idled}
 use Rattle.ig_rule.specs.Beside.{others_then_own_legal}
 use Rattle.ig_rule.specs.Facts.{Reader}
-use Rattle.ig_rule.specs.QueueFiles.{QueueFile, Queued, fits, path_of, queue_of}
+use Rattle.ig_rule.specs.QueueFiles.{QueueFile, fits, path_of, queue_of}
 use Rattle.ig_rule.specs.Roles.{Allows}
-use Rattle.ig_rule.specs.Rule.{Allowed, MayBecome, MayMove}
+use Rattle.ig_rule.specs.Rule.{Allowed, MayBecome, MayMove, fresh_name}
 use Rattle.ig_rule.specs.Sound.{Legal}
 use Rattle.ig_rule.specs.Stages.{stages_in}
 use Rattle.ig_rule.specs.declared.role.Role.{Role}
 use Rattle.ig_queue.specs.Moves.{OthersKeep, close_made, lease_made, leased_name}
+use Rattle.ig_queue.specs.Requeued.{released_name}
 use Rattle.ig_queue.specs.declared.types.Closed.{Closed}
 use Rattle.ig_queue.specs.declared.types.Lease.{Lease}
 
@@ -62,50 +64,49 @@ own_allowed read q from to files others (Names given) a takes may = absurd takes
 own_allowed read q from to files others (Found bytes) a takes may = absurd takes
 own_allowed read q from to files others Put a takes may = absurd takes
 
-may_move : (read : Reader) (q : List ℕ) (files : Files) (name : QueueName) (other : QueueFile) → queue_fits name ≡ true → fits other ≡ true
-    → MayBecome (stages_in read q files) files (Queued name) other → is_some (file_at files (path_of q (Queued name))) ≡ true
-    → MayMove (stages_in read q files) (queue_of q files) q files (path_of q (Queued name)) (path_of q other)
-may_move read q files name other fitting fits becomes there = record {
-  name = Queued name;
+may_move : (read : Reader) (q : List ℕ) (files : Files) (x other : QueueFile) → fits x ≡ true → fits other ≡ true → MayBecome (stages_in read q files) files x other
+    → is_some (file_at files (path_of q x)) ≡ true → MayMove (stages_in read q files) (queue_of q files) q files (path_of q x) (path_of q other)
+may_move read q files x other fitting fits becomes there = record {
+  name = x;
   other = other;
   from_is = refl;
   to_is = refl;
-  there = ap (λ b. is_some (if b then file_at files (path_of q (Queued name)) else None)) fitting ∙ there;
+  there = ap (λ b. is_some (if b then file_at files (path_of q x) else None)) fitting ∙ there;
   fitting = fits;
   becomes = becomes;
 }
 
--- a name in the queue that becomes another of its task
-abbrev pub BecomesBeside : (Bool → Files → Act → Type 0) → Reader → List ℕ → Files → QueueName → QueueFile → Type 0
-BecomesBeside allows read q files name other =
-    (others : List Step) → ByOthers allows files others → MayBecome (stages_in read q (replay files others)) (replay files others) (Queued name) other
+-- a name of a task that becomes another of it
+abbrev pub BecomesBeside : (Bool → Files → Act → Type 0) → Reader → List ℕ → Files → QueueFile → QueueFile → Type 0
+BecomesBeside allows read q files x other =
+    (others : List Step) → ByOthers allows files others → MayBecome (stages_in read q (replay files others)) (replay files others) x other
 
-module _ (allows : Bool → Files → Act → Type 0) (read : Reader) (role : Role) (q : List ℕ) (old new : Log) (name : QueueName) (other : QueueFile) (fitting : queue_fits name ≡ true) (fit : fits other ≡ true)
-    (keep : OthersKeep allows read role q) (becomes : BecomesBeside allows read q (files_of old) name other) (legal : Legal read q old) where
+module _ (allows : Bool → Files → Act → Type 0) (read : Reader) (role : Role) (q : List ℕ) (old new : Log) (x other : QueueFile) (fitting : fits x ≡ true) (fit : fits other ≡ true)
+    (keep : OthersKeep allows read role q) (becomes : BecomesBeside allows read q (files_of old) x other) (legal : Legal read q old) where
   idle_legal : Idled allows old new → Legal read q new
   idle_legal t = others_then_own_legal read role q old new t.others [] (by_others_as allows read role q keep (files_of old) t.others t.by) t.opening t.grown tt legal
 
-  answered_legal : (answer : Answer) → IsAnswered allows old new (Shifts (path_of q (Queued name)) (path_of q other)) answer → Legal read q new
+  answered_legal : (answer : Answer) → IsAnswered allows old new (Shifts (path_of q x) (path_of q other)) answer → Legal read q new
   answered_legal answer t =
       others_then_own_legal read role q old new t.acted.others (t.act ∷ []) (by_others_as allows read role q keep (files_of old) t.acted.others t.acted.by) t.acted.opening t.acted.grown (
-        own_allowed read q (path_of q (Queued name)) (path_of q other) (files_of old) t.acted.others answer t.act t.takes
-            (may_move read q (replay (files_of old) t.acted.others) name other fitting fit (becomes t.acted.others t.acted.by)),
+        own_allowed read q (path_of q x) (path_of q other) (files_of old) t.acted.others answer t.act t.takes
+            (may_move read q (replay (files_of old) t.acted.others) x other fitting fit (becomes t.acted.others t.acted.by)),
         tt,
       ) legal
 
-  moved_legal : (result : Result Bool StoreError) → Answered allows old new (Shifts (path_of q (Queued name)) (path_of q other)) (answer_by WasThere result) → Legal read q new
+  moved_legal : (result : Result Bool StoreError) → Answered allows old new (Shifts (path_of q x) (path_of q other)) (answer_by WasThere result) → Legal read q new
   moved_legal (Ok there) t = answered_legal (WasThere there) t
   moved_legal (Err Failed) (inl t) = idle_legal t
   moved_legal (Err Failed) (inr made) = answered_legal made.answer made.answered
   moved_legal (Err Memory) t = idle_legal t
 
-pub move_legal : (allows : Bool → Files → Act → Type 0) (read : Reader) (role : Role) (q : List ℕ) (old new : Log) (name : QueueName) (other : QueueFile) (from to : List ℕ)
-    (result : Result Bool StoreError) → queue_fits name ≡ true → fits other ≡ true → from ≡ path_of q (Queued name) → to ≡ path_of q other
+pub move_legal : (allows : Bool → Files → Act → Type 0) (read : Reader) (role : Role) (q : List ℕ) (old new : Log) (x other : QueueFile) (from to : List ℕ)
+    (result : Result Bool StoreError) → fits x ≡ true → fits other ≡ true → from ≡ path_of q x → to ≡ path_of q other
     → Answered allows old new (Shifts from to) (answer_by WasThere result)
-    → OthersKeep allows read role q → BecomesBeside allows read q (files_of old) name other → Legal read q old → Legal read q new
-move_legal allows read role q old new name other from to result fitting fits from_is to_is t keep becomes legal =
-    moved_legal allows read role q old new name other fitting fits keep becomes legal result
-    (subst (λ path. Answered allows old new (Shifts (path_of q (Queued name)) path) (answer_by WasThere result)) to_is
+    → OthersKeep allows read role q → BecomesBeside allows read q (files_of old) x other → Legal read q old → Legal read q new
+move_legal allows read role q old new x other from to result fitting fits from_is to_is t keep becomes legal =
+    moved_legal allows read role q old new x other fitting fits keep becomes legal result
+    (subst (λ path. Answered allows old new (Shifts (path_of q x) path) (answer_by WasThere result)) to_is
     (subst (λ path. Answered allows old new (Shifts path to) (answer_by WasThere result)) from_is t))
 
 -- ---- numbers have their places
@@ -122,3 +123,11 @@ pub task_fits_of : (name : QueueName) → queue_fits name ≡ true → task_fits
 task_fits_of name fitting =
     let parts = and_parts (nat_lt name.visible (10 ^ 10)) (task_fits (task_of name) && nat_lt name.attempt (10 ^ 3)) fitting in
     (and_parts (task_fits (task_of name)) (nat_lt name.attempt (10 ^ 3)) parts.1).0
+
+pub released_fits : (name : QueueName) → queue_fits name ≡ true → queue_fits (released_name name) ≡ true
+released_fits name fitting =
+    let parts = and_parts (nat_lt name.visible (10 ^ 10)) (task_fits (task_of name) && nat_lt name.attempt (10 ^ 3)) fitting in
+    and_from (nat_lt 0 (10 ^ 10)) (task_fits (task_of name) && nat_lt name.attempt (10 ^ 3)) refl parts.1
+
+pub fresh_fits : (id : TaskId) → task_fits id ≡ true → queue_fits (fresh_name id) ≡ true
+fresh_fits id fitting = and_from (nat_lt 0 (10 ^ 10)) (task_fits id && nat_lt 0 (10 ^ 3)) refl (and_from (task_fits id) (nat_lt 0 (10 ^ 3)) fitting refl)

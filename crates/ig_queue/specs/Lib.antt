@@ -1,4 +1,8 @@
 pub mod Candidates
 pub mod Moves
+pub mod Progress
+pub mod Requeued
 -- what the paths of the files are made of
 pub mod FilesAt
+-- what is read of names
+pub mod NamesRead

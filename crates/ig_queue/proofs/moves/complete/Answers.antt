@@ -1,6 +1,6 @@
 use Rattle.std.proofs.Common.{refl, ap, ◌∙◌}
 use Rattle.ig_defs.specs.QueueNames.{task_of}
-use Rattle.ig_rule.specs.QueueFiles.{Done, path_of}
+use Rattle.ig_rule.specs.QueueFiles.{Done, Queued, path_of}
 use Rattle.ig_queue.proofs.Moving.{not_closed, shifted, move_legal, task_fits_of}
 use Rattle.ig_queue.proofs.moves.complete.Goals as goal
 
@@ -12,19 +12,19 @@ returns-in_err-to-clause-turn g c = λ tells. not_closed _ _ _ _ c.from_residual
 
 pub returns-in_err-shift-clause-legal : goal.returns-in_err-shift-clause-legal
 returns-in_err-shift-clause-legal g c =
-    λ tells read role keep may. move_legal _ read role c.args.queue.now _ _ c.args.name (Done (task_of c.args.name)) c.in_ok-from.from c.in_ok-to.to c.shift.result
+    λ tells read role keep may. move_legal _ read role c.args.queue.now _ _ (Queued c.args.name) (Done (task_of c.args.name)) c.in_ok-from.from c.in_ok-to.to c.shift.result
     c.requires.fits (task_fits_of c.args.name c.requires.fits) c.in_ok-from.ensures (c.in_ok-to.ensures ∙ ap (λ id. path_of c.args.queue.now (Done id)) c.task_of.ensures)
     (c.shift.ensures.turn tells) keep (λ others by. (refl, may others by))
 
 pub returns-then-branch-clause-legal : goal.returns-then-branch-clause-legal
 returns-then-branch-clause-legal g c =
-    λ tells read role keep may. move_legal _ read role c.args.queue.now _ _ c.args.name (Done (task_of c.args.name)) c.in_ok-from.from c.in_ok-to.to c.shift.result
+    λ tells read role keep may. move_legal _ read role c.args.queue.now _ _ (Queued c.args.name) (Done (task_of c.args.name)) c.in_ok-from.from c.in_ok-to.to c.shift.result
     c.requires.fits (task_fits_of c.args.name c.requires.fits) c.in_ok-from.ensures (c.in_ok-to.ensures ∙ ap (λ id. path_of c.args.queue.now (Done id)) c.task_of.ensures)
     (c.shift.ensures.turn tells) keep (λ others by. (refl, may others by))
 
 pub returns-clause-legal : goal.returns-clause-legal
 returns-clause-legal g c =
-    λ tells read role keep may. move_legal _ read role c.args.queue.now _ _ c.args.name (Done (task_of c.args.name)) c.in_ok-from.from c.in_ok-to.to c.shift.result
+    λ tells read role keep may. move_legal _ read role c.args.queue.now _ _ (Queued c.args.name) (Done (task_of c.args.name)) c.in_ok-from.from c.in_ok-to.to c.shift.result
     c.requires.fits (task_fits_of c.args.name c.requires.fits) c.in_ok-from.ensures (c.in_ok-to.ensures ∙ ap (λ id. path_of c.args.queue.now (Done id)) c.task_of.ensures)
     (c.shift.ensures.turn tells) keep (λ others by. (refl, may others by))
 

@@ -12,19 +12,19 @@ returns-in_err-to-clause-turn g c = λ tells. not_leased _ _ _ _ c.from_residual
 
 pub returns-in_err-shift-clause-legal : goal.returns-in_err-shift-clause-legal
 returns-in_err-shift-clause-legal g c =
-    λ tells read role keep. move_legal _ read role c.args.queue.now _ _ c.args.name (Queued (leased_name c.args.now c.args.seconds c.args.name))
+    λ tells read role keep. move_legal _ read role c.args.queue.now _ _ (Queued c.args.name) (Queued (leased_name c.args.now c.args.seconds c.args.name))
     c.in_ok-from.from c.in_ok-to.to c.shift.result c.requires.fits (leased_fits c.args.now c.args.seconds c.args.name c.requires.fits c.requires.few)
     c.in_ok-from.ensures (c.in_ok-to.ensures ∙ ap (λ name. path_of c.args.queue.now (Queued name)) c.leased-given.ensures) (c.shift.ensures.turn tells) keep (λ others by. refl)
 
 pub returns-then-branch-clause-legal : goal.returns-then-branch-clause-legal
 returns-then-branch-clause-legal g c =
-    λ tells read role keep. move_legal _ read role c.args.queue.now _ _ c.args.name (Queued (leased_name c.args.now c.args.seconds c.args.name))
+    λ tells read role keep. move_legal _ read role c.args.queue.now _ _ (Queued c.args.name) (Queued (leased_name c.args.now c.args.seconds c.args.name))
     c.in_ok-from.from c.in_ok-to.to c.shift.result c.requires.fits (leased_fits c.args.now c.args.seconds c.args.name c.requires.fits c.requires.few)
     c.in_ok-from.ensures (c.in_ok-to.ensures ∙ ap (λ name. path_of c.args.queue.now (Queued name)) c.leased-given.ensures) (c.shift.ensures.turn tells) keep (λ others by. refl)
 
 pub returns-clause-legal : goal.returns-clause-legal
 returns-clause-legal g c =
-    λ tells read role keep. move_legal _ read role c.args.queue.now _ _ c.args.name (Queued (leased_name c.args.now c.args.seconds c.args.name))
+    λ tells read role keep. move_legal _ read role c.args.queue.now _ _ (Queued c.args.name) (Queued (leased_name c.args.now c.args.seconds c.args.name))
     c.in_ok-from.from c.in_ok-to.to c.shift.result c.requires.fits (leased_fits c.args.now c.args.seconds c.args.name c.requires.fits c.requires.few)
     c.in_ok-from.ensures (c.in_ok-to.ensures ∙ ap (λ name. path_of c.args.queue.now (Queued name)) c.leased-given.ensures) (c.shift.ensures.turn tells) keep (λ others by. refl)
 
