@@ -1,6 +1,7 @@
 -- Files that have the texts of a volume give its labels.
 use Rattle.std.proofs.Common.{arith, ◌≡◌, ◌<◌, ◌+◌, ◌^◌, ℕ, true, false, Bool, if◌then◌else◌, List, Option, None, Some, refl, ap, sym, ◌∙◌, subst}
 use Rattle.std.specs.Prelude.{is_some}
+use Rattle.std.specs.List.{Contains}
 use Rattle.std.proofs.lemmas.List.Elements.{All-contains}
 use Rattle.std.proofs.lemmas.Option.{none-some, same_Some}
 use Rattle.ig_space.specs.declared.point.Box3.{Box3}
@@ -9,7 +10,8 @@ use Rattle.ig_space.specs.CellBoxes.{chunks-IsGrid}
 use Rattle.ig_space.specs.Cells.{IsIn-is_in, cell-within, is_in-IsIn}
 use Rattle.ig_space.specs.Chunk.{chunk_path}
 use Rattle.ig_space.specs.Geometry.{count, geometry_fits, label_len}
-use Rattle.ig_space.specs.Grid.{IsIn, cell, cell_at, cell_count, chunks_of, is_in, point_at, size_of, space_of}
+use Rattle.ig_space.specs.Grid.{IsIn, cell, cell_at, cell_count, chunks_of, hull, is_in, number_at, point_at, size_of, space_of}
+use Rattle.ig_space.specs.HullCells.{hull-numbers}
 use Rattle.ig_space.specs.Points.{point_at-inside}
 use Rattle.ig_space.specs.Raw.{AllFit}
 use Rattle.ig_space.specs.Volume.{IsInside}
@@ -17,10 +19,10 @@ use Rattle.ig_defs.specs.Own.{File}
 use Rattle.ig_layer.specs.Layer.{Labels, Reading, label_in, volume_at}
 use Rattle.ig_layer.specs.Listed.{all_fit-from, all_listed-each, all_listed-has, file_if-path}
 use Rattle.ig_layer.specs.Texts.{all_fit, chunk_file, chunk_text, file_if, label_by_number, layer_files, text_in, text_of}
-use Rattle.ig_volume.specs.Laws.{CopiesKeepVolumes, LayerFilesHoldVolumes, MapsHaveLayers, MapsHaveTexts, TextsHoldMaps}
+use Rattle.ig_volume.specs.Laws.{BoxFilesHoldVolumes, CopiesKeepVolumes, LayerFilesHoldVolumes, MapsHaveLayers, MapsHaveTexts, TextsHoldMaps}
 use Rattle.ig_volume.specs.Maps.{FitsOn, HoldEach, VoxelMap, map_on}
 use Rattle.ig_volume.proofs.Chunks.{all_listed-values, chunk-writable, chunk_text-label}
-use Rattle.ig_volume.proofs.Volumes.{if_true, in_space, label_by, map-volume, volume-by_chunks}
+use Rattle.ig_volume.proofs.Volumes.{chunk-of, if_true, in_space, label_by, map-volume, volume-by_chunks, volume_at-chunk}
 
 -- ---- what a chunk's file gives
 -- the chunk's text of the volume is there, and the files have it
@@ -47,20 +49,42 @@ file-bytes : (path : List ℕ) (bytes : Option (List ℕ)) (file : File) → fil
 file-bytes path None file e = absurd (none-some file e)
 file-bytes path (Some bytes) file e = ap (λ (f : File). Some f.bytes) (same_Some _ _ e)
 
+text-of_file : (files : Reading) (place : Place) (volume : Labels) (k : ℕ) (file : File) → chunk_file place volume (cell (chunks_of place.geometry) k) ≡ Some file
+    → files file.path ≡ Some file.bytes → HasText files place volume k
+text-of_file files place volume k file is held =
+    let c = cell (chunks_of place.geometry) k in
+    record {
+      text = file.bytes;
+      is = file-bytes (chunk_path place.dir c) (chunk_text place.geometry volume c) file is;
+      held = ap files (sym (file_if-path (chunk_path place.dir c) (chunk_text place.geometry volume c) file is)) ∙ held;
+    }
+
+each-held : (files : Reading) (list : List File) (file : File) → HoldEach files list → Contains list file → files file.path ≡ Some file.bytes
+each-held files list file held among = All-contains (λ (f : File). files f.path ≡ Some f.bytes) list file held among
+
 held-text : (files : Reading) (place : Place) (volume : Labels) (list : List File) → layer_files place volume ≡ Some list → HoldEach files list
     → (k : ℕ) → k < cell_count (chunks_of place.geometry) → HasText files place volume k
 held-text files place volume list is held k below =
     let g = chunks_of place.geometry in
     let v = all_listed-has (λ j. chunk_file place volume (cell g j)) (cell_count g) list is k below in
-    let path = file_if-path (chunk_path place.dir (cell g k)) (chunk_text place.geometry volume (cell g k)) v.value v.is in
-    record {
-      text = v.value.bytes;
-      is = file-bytes (chunk_path place.dir (cell g k)) (chunk_text place.geometry volume (cell g k)) v.value v.is;
-      held = ap files (sym path) ∙ All-contains (λ (file : File). files file.path ≡ Some file.bytes) list v.value held v.among;
-    }
+    text-of_file files place volume k v.value v.is (each-held files list v.value held v.among)
 
 pub layer_files-hold_volumes : LayerFilesHoldVolumes
 layer_files-hold_volumes files place volume list fits is held = texts-give files place volume fits (held-text files place volume list is held)
+
+pub box_files-hold_volumes : BoxFilesHoldVolumes
+box_files-hold_volumes files place volume box list fits within is held x y z inside =
+    let g = chunks_of place.geometry in
+    let met = hull g box in
+    let numbers = hull-numbers g box (chunks-IsGrid place.geometry fits) within x y z inside in
+    let v = all_listed-has (λ j. chunk_file place volume (cell met j)) (cell_count met) list is (number_at met x y z) numbers.0 in
+    let whole = in_space box (space_of place.geometry) x y z within inside in
+    let own = chunk-of place x y z fits whole in
+    let same : cell g own.number ≡ cell met (number_at met x y z) = own.is ∙ sym numbers.1 in
+    let text = text-of_file files place volume own.number v.value (ap (chunk_file place volume) same ∙ v.is) (each-held files list v.value held v.among) in
+    volume_at-chunk files place x y z whole
+    ∙ ap (λ (chunk : Box3). label_by files place chunk x y z) (sym own.is)
+    ∙ chunk-gives files place volume own.number x y z fits text own.inside
 
 -- ---- the texts of a map
 within-from_low : (b : Box3) (x y z : ℕ) → IsInside (size_of b) x y z → IsIn b (b.lo.x + x) (b.lo.y + y) (b.lo.z + z)

@@ -1,11 +1,12 @@
 -- The laws of layers, for every place, encoding and size of chunks.
 use Rattle.std.specs.Prelude.{◌≡◌, ◌<◌, ◌↔◌, ℕ, true, List, Some, IsSome}
+use Rattle.ig_space.specs.declared.point.Box3.{Box3}
 use Rattle.ig_space.specs.declared.place.Place.{Place}
 use Rattle.ig_space.specs.Geometry.{geometry_fits}
-use Rattle.ig_space.specs.Grid.{IsIn, cell, cell_count, chunks_of, space_of}
+use Rattle.ig_space.specs.Grid.{IsIn, IsWithin, cell, cell_count, chunks_of, space_of}
 use Rattle.ig_defs.specs.Own.{File}
 use Rattle.ig_layer.specs.Layer.{Labels, Reading, volume_at}
-use Rattle.ig_layer.specs.Texts.{chunk_text, layer_files}
+use Rattle.ig_layer.specs.Texts.{chunk_text, files_in, layer_files}
 use Rattle.ig_volume.specs.Maps.{FitsOn, HoldEach, HoldTexts, ReadAs, VoxelMap, map_on}
 
 -- Files that have the chunks' texts of a map to labels in range have that map as their volume.
@@ -33,6 +34,12 @@ abbrev pub LayerFilesHoldVolumes : Type 0
 LayerFilesHoldVolumes = (files : Reading) (place : Place) (volume : Labels) (list : List File) → geometry_fits place.geometry ≡ true
     → layer_files place volume ≡ Some list → HoldEach files list
     → (x y z : ℕ) → IsIn (space_of place.geometry) x y z → volume_at files place x y z ≡ volume x y z
+
+-- So are the labels of a box where the files have those of the chunks that meet it.
+abbrev pub BoxFilesHoldVolumes : Type 0
+BoxFilesHoldVolumes = (files : Reading) (place : Place) (volume : Labels) (box : Box3) (list : List File) → geometry_fits place.geometry ≡ true
+    → IsWithin box (space_of place.geometry) → files_in place volume box ≡ Some list → HoldEach files list
+    → (x y z : ℕ) → IsIn box x y z → volume_at files place x y z ≡ volume x y z
 
 -- The volume is the map exactly where each chunk reads as it.
 abbrev pub ChunksMakeVolumes : Type 0

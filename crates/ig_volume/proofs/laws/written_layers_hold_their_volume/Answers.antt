@@ -1,4 +1,4 @@
-use Rattle.ig_volume.proofs.Texts.{layer_files-hold_volumes, maps-have_layers, maps-have_texts, texts-hold_maps}
+use Rattle.ig_volume.proofs.Texts.{box_files-hold_volumes, layer_files-hold_volumes, maps-have_layers, maps-have_texts, texts-hold_maps}
 use Rattle.ig_volume.proofs.laws.written_layers_hold_their_volume.Goals as goal
 
 pub returns-clause-volume : goal.returns-clause-volume
@@ -12,3 +12,6 @@ returns-clause-layer c = maps-have_layers
 
 pub returns-clause-files : goal.returns-clause-files
 returns-clause-files c = layer_files-hold_volumes
+
+pub returns-clause-boxes : goal.returns-clause-boxes
+returns-clause-boxes c = box_files-hold_volumes
