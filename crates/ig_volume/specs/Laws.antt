@@ -35,7 +35,7 @@ LayerFilesHoldVolumes = (files : Reading) (place : Place) (volume : Labels) (lis
     → layer_files place volume ≡ Some list → HoldEach files list
     → (x y z : ℕ) → IsIn (space_of place.geometry) x y z → volume_at files place x y z ≡ volume x y z
 
--- So are the labels of a box where the files have those of the chunks that meet it.
+-- Files that have those of the chunks that meet a box have the labels of the box.
 abbrev pub BoxFilesHoldVolumes : Type 0
 BoxFilesHoldVolumes = (files : Reading) (place : Place) (volume : Labels) (box : Box3) (list : List File) → geometry_fits place.geometry ≡ true
     → IsWithin box (space_of place.geometry) → files_in place volume box ≡ Some list → HoldEach files list
