@@ -65,7 +65,11 @@ fn halves<'a>(words: &'a [&'a str]) -> Option<(&'a [&'a str], &'a [&'a str])> {
 }
 
 /// An answer with the numbers in one line.
-pub(crate) fn listed(alloc: Global, answer: &str, numbers: &[u32]) -> Result<Option<Told>, AllocError> {
+pub(crate) fn listed(
+    alloc: Global,
+    answer: &str,
+    numbers: &[u32],
+) -> Result<Option<Told>, AllocError> {
     let mut told = Told::of(alloc, answer)?;
     say_small(alloc, &mut told, numbers)?;
     Ok(Some(told))
