@@ -39,7 +39,7 @@ pub(crate) fn read_form(size: &str, bits: &str, block: Option<&str>) -> Option<F
 }
 
 /// The product of three numbers, where it has 64 bits.
-fn product(x: u64, y: u64, z: u64) -> Option<u64>
+pub(crate) fn product(x: u64, y: u64, z: u64) -> Option<u64>
     ensures { IfSome result (λ n. n ≡ x * (y * z)) }
 {
     x.checked_mul(y.checked_mul(z)?)

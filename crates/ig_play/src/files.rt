@@ -59,7 +59,7 @@ fn ask_table(alloc: Global, bytes: &Bytes, parts: &str) -> Answer {
 }
 
 /// Whether a box of this size has sides, and few voxels.
-fn is_box(size: Point) -> bool
+pub(crate) fn is_box(size: Point) -> bool
     ensures { IsTrue result → IsBox size }
 {
     size.x >= 1 && size.y >= 1 && size.z >= 1 && has_few(size, 1 << 24)

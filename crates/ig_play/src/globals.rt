@@ -11,7 +11,7 @@ use ig_space::Classes;
 use std::alloc::{AllocError, Global};
 
 /// At most so many boxes, nodes and links.
-const MOST: usize = 10_000;
+pub(crate) const MOST: usize = 10_000;
 
 /// `A-B`.
 fn edge(word: &str) -> Option<Edge> {
@@ -35,7 +35,7 @@ fn edges_of(alloc: Global, words: &[&str]) -> Result<Option<Vec<Edge>>, AllocErr
 }
 
 /// Whether the ends of each link are below the number of nodes.
-fn are_within(nodes: u32, edges: &[Edge]) -> bool
+pub(crate) fn are_within(nodes: u32, edges: &[Edge]) -> bool
     ensures { IsTrue result → AreWithin nodes edges.now }
 {
     for place in 0..edges.len() {
@@ -65,7 +65,11 @@ fn halves<'a>(words: &'a [&'a str]) -> Option<(&'a [&'a str], &'a [&'a str])> {
 }
 
 /// An answer with the numbers in one line.
-fn listed(alloc: Global, answer: &str, numbers: &[u32]) -> Result<Option<Told>, AllocError> {
+pub(crate) fn listed(
+    alloc: Global,
+    answer: &str,
+    numbers: &[u32],
+) -> Result<Option<Told>, AllocError> {
     let mut told = Told::of(alloc, answer)?;
     say_small(alloc, &mut told, numbers)?;
     Ok(Some(told))

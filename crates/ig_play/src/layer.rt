@@ -52,7 +52,7 @@ fn label(labels: &[u64], size: Point, x: u64, y: u64, z: u64) -> u64 {
 }
 
 /// The labels of the chunk from `lo` to `hi`.
-fn labels_in(
+pub(crate) fn labels_in(
     alloc: Global,
     labels: &[u64],
     size: Point,
@@ -71,7 +71,7 @@ fn labels_in(
 }
 
 /// The first place of the chunk of this number along an axis, and the one after its last.
-fn side(number: u64, chunk: u64, size: u64) -> (u64, u64) {
+pub(crate) fn side(number: u64, chunk: u64, size: u64) -> (u64, u64) {
     let low = number.saturating_mul(chunk);
     (low, low.saturating_add(chunk).min(size))
 }
@@ -145,7 +145,7 @@ fn point(x: u64, y: u64, z: u64) -> Point {
 }
 
 /// How many chunks there are along an axis.
-fn chunks_along(size: u64, chunk: u64) -> u64 {
+pub(crate) fn chunks_along(size: u64, chunk: u64) -> u64 {
     if chunk == 0 { 0 } else { size.div_ceil(chunk) }
 }
 

@@ -3,6 +3,7 @@
 //! above read none of the contracts below; what is expected stands in the transcripts.
 #![tactic(auto)]
 
+mod boxes;
 mod codecs;
 mod files;
 mod globals;

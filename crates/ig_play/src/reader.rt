@@ -1,5 +1,6 @@
 //! Calls of one function below by itself. Each group of functions has one here that knows their names, and gives nothing where the
 //! name is another, or a word is out of form.
+use crate::boxes::ask_boxes;
 use crate::codecs::{ask_decode, ask_encode, labels_of, read_form};
 use crate::files::{ask_count, ask_file};
 use crate::globals::{ask_number, ask_parts as ask_whole, ask_total, ask_walk};
@@ -161,6 +162,17 @@ fn ask_parts(alloc: Global, word: &str, size: &str, labels: &[&str]) -> Answer {
     }
 }
 
+/// `label_by_boxes SIZE BOX LABEL..`.
+fn ask_boxes_of(alloc: Global, size: &str, step: &str, labels: &[&str]) -> Answer {
+    let (Some(size), Some(step)) = (point(size), point(step)) else {
+        return Ok(None);
+    };
+    match labels_of(alloc, labels)? {
+        Some(labels) => ask_boxes(alloc, size, step, labels.as_slice()),
+        None => Ok(None),
+    }
+}
+
 /// The mode of labels, and of two rows of them.
 fn ask_modes(alloc: Global, word: &str, labels: &[&str]) -> Answer {
     let Some(labels) = labels_of(alloc, labels)? else {
@@ -231,6 +243,9 @@ fn ask_list(world: &World, word: &str, rest: &[&str]) -> Answer {
     match rest {
         [size, labels @ ..] if word == "runs_of" || word == "label" => {
             ask_parts(world.alloc, word, size, labels)
+        }
+        [size, step, labels @ ..] if word == "label_by_boxes" => {
+            ask_boxes_of(world.alloc, size, step, labels)
         }
         [size, levels, labels @ ..] if word == "mips" => {
             ask_mips_of(world.alloc, size, levels, labels)

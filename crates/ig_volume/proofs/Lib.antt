@@ -1,0 +1,4 @@
+pub mod TextReads
+pub mod Chunks
+pub mod Volumes
+pub mod Texts
