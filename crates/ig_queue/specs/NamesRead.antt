@@ -1,14 +1,16 @@
--- A text that is read as a name of a task in the queue writes it.
+-- A text that is read as a name of a task writes it.
 use Rattle.std.proofs.Common.{arith, ◌≡◌, ◌≢◌, ◌<◌, ◌+◌, ◌-◌, ◌*◌, ◌/◌, ◌%◌, ◌^◌, ◌&&◌, ℕ, zero, suc, Bool, true, false, if◌then◌else◌, List, [], ◌∷◌, ◌++◌, Option, None, Some, IfSome, IsNone, codes, drop, take, refl, ap, sym, ◌∙◌}
 use Rattle.std.proofs.Math.Seq.{drop-append-add, take-append_seam}
 use Rattle.std.proofs.lemmas.Bool.{and_parts, and_from}
 use Rattle.std.proofs.lemmas.List.Sums.{fold-append}
 use Rattle.std.proofs.lemmas.Slice.Eq.{bytes_eq-Decides}
 use Rattle.std.specs.Str.{bytes_eq}
+use Rattle.ig_space.specs.declared.task_id.TaskId.{TaskId}
 use Rattle.ig_defs.specs.declared.queue_name.QueueName.{QueueName}
-use Rattle.ig_defs.specs.QueueNames.{digits, queue_file, queue_fits}
-use Rattle.ig_defs.specs.QueueNameLaws.{IsName-fits, length-digits}
+use Rattle.ig_defs.specs.QueueNames.{digits, queue_file, queue_fits, task_file, task_fits}
+use Rattle.ig_defs.specs.QueueNameLaws.{IsName-fits, IsTask-fits, length-digits}
 use Rattle.ig_queue.specs.Progress.{fields, name_in, number}
+use Rattle.ig_queue.specs.TaskNames.{task_fields, task_in}
 
 -- digits of a number write it
 number-digits : (n v : ℕ) → v < 10 ^ n → number (digits n v) ≡ v
@@ -42,20 +44,40 @@ fields-written name fits =
     let attempt : number (take 3 (drop 24 (queue_file name))) ≡ name.attempt = ap (λ text. number (take 3 text)) after_task ∙ first_number 3 name.attempt (codes ".json") small.attempt in
     λ i. record { visible = visible i; stage = stage i; task = task i; attempt = attempt i }
 
-none_by : (text : List ℕ) (b : Bool) → (queue_fits (fields text) && bytes_eq (queue_file (fields text)) text) ≡ b → ((name : QueueName) → queue_fits name ≡ true → text ≢ queue_file name)
-    → None ≡ (if b then Some (fields text) else None)
-none_by text true is none =
-    let parts = and_parts (queue_fits (fields text)) _ is in
-    absurd (none (fields text) parts.0 (sym ((bytes_eq-Decides (queue_file (fields text)) text).0 parts.1)))
-none_by text false is none = refl
+-- ---- what a reader found
+-- By the reader's answer: a text of which the numbers at their places write a thing that fits, and then that thing.
+none_by : {A : Type 0} (fits : A → Bool) (file : A → List ℕ) (a : A) (text : List ℕ) (b : Bool) → (fits a && bytes_eq (file a) text) ≡ b → ((x : A) → fits x ≡ true → text ≢ file x)
+    → None ≡ (if b then Some a else None)
+none_by fits file a text true is none =
+    let parts = and_parts (fits a) _ is in
+    absurd (none a parts.0 (sym ((bytes_eq-Decides (file a) text).0 parts.1)))
+none_by fits file a text false is none = refl
+
+some_by : {A : Type 0} (fits : A → Bool) (file : A → List ℕ) (a x : A) (text : List ℕ) → a ≡ x → fits x ≡ true → text ≡ file x
+    → (if fits a && bytes_eq (file a) text then Some a else None) ≡ Some x
+some_by fits file a x text same fitting is =
+    ap (λ b. if b then Some a else None)
+    (and_from (fits a) _ (ap fits same ∙ fitting) ((bytes_eq-Decides (file a) text).1 (ap file same ∙ sym is))) ∙ ap Some same
 
 -- What a reader found is the name that the text writes.
 pub name_in-found : (text : List ℕ) (found : Option QueueName) → IfSome found (λ name. (queue_fits name ≡ true) × (text ≡ queue_file name))
     → (IsNone found → (name : QueueName) → queue_fits name ≡ true → text ≢ queue_file name) → found ≡ name_in text
 unfolding name_in
-name_in-found text (Some name) some none =
-    let same : fields text ≡ name = ap fields some.1 ∙ fields-written name some.0 in
-    let fits : queue_fits (fields text) ≡ true = ap queue_fits same ∙ some.0 in
-    let writes : bytes_eq (queue_file (fields text)) text ≡ true = (bytes_eq-Decides (queue_file (fields text)) text).1 (ap queue_file same ∙ sym some.1) in
-    sym (ap (λ b. if b then Some (fields text) else None) (and_from (queue_fits (fields text)) _ fits writes) ∙ ap Some same)
-name_in-found text None some none = none_by text (queue_fits (fields text) && bytes_eq (queue_file (fields text)) text) refl (none refl)
+name_in-found text (Some name) some none = sym (some_by queue_fits queue_file (fields text) name text (ap fields some.1 ∙ fields-written name some.0) some.0 some.1)
+name_in-found text None some none = none_by queue_fits queue_file (fields text) text _ refl (none refl)
+
+-- ---- the name of a task that is done or dead
+task_fields-written : (id : TaskId) → task_fits id ≡ true → task_fields (task_file id) ≡ id
+task_fields-written id fits =
+    let small = IsTask-fits id fits in
+    let last : List ℕ = digits 6 id.task ++ codes ".json" in
+    let after_stage : drop 5 (task_file id) ≡ last = past_digits 4 id.stage 1 (45 ∷ last) in
+    let stage : number (take 4 (task_file id)) ≡ id.stage = first_number 4 id.stage (45 ∷ last) small.stage in
+    let task : number (take 6 (drop 5 (task_file id))) ≡ id.task = ap (λ text. number (take 6 text)) after_stage ∙ first_number 6 id.task (codes ".json") small.task in
+    λ i. record { stage = stage i; task = task i }
+
+pub task_in-found : (text : List ℕ) (found : Option TaskId) → IfSome found (λ id. (task_fits id ≡ true) × (text ≡ task_file id))
+    → (IsNone found → (id : TaskId) → task_fits id ≡ true → text ≢ task_file id) → found ≡ task_in text
+unfolding task_in
+task_in-found text (Some id) some none = sym (some_by task_fits task_file (task_fields text) id text (ap task_fields some.1 ∙ task_fields-written id some.0) some.0 some.1)
+task_in-found text None some none = none_by task_fits task_file (task_fields text) text _ refl (none refl)

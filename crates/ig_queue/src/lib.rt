@@ -15,14 +15,14 @@ mod types;
 pub use due::candidates;
 pub use ig_defs::QueueName;
 pub use ig_space::{Path, TaskId};
-pub use listing::progress;
+pub use listing::{name_in, progress, task_in};
 pub use moves::{bury, complete, lease};
 pub use naming::{
     parse_queue_name, parse_stage_name, parse_task_name, queue_name, stage_name, task_name,
 };
 pub use paths::{
     dead_dir, dead_path, done_dir, done_path, queue_dir, queued_path, record_path, seal_path,
-    stages_dir,
+    seals_dir, stages_dir,
 };
 pub use requeue::{release, revive};
 pub use types::{Candidates, Closed, Lease, Progress};

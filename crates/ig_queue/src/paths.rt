@@ -40,7 +40,7 @@ pub fn stages_dir(alloc: Global, queue: &Path) -> Result<Path, AllocError>
 
 /// The directory of a queue's seals.
 #[tactic(auto, unfolding(ig_space::specs::Path::is_path))]
-fn seals_dir(alloc: Global, queue: &Path) -> Result<Path, AllocError>
+pub fn seals_dir(alloc: Global, queue: &Path) -> Result<Path, AllocError>
     requires short { length queue.now ≤ 100 }
     ensures dir { IfOk result (λ dir. dir ≡ joined queue.now (codes "seals")) }
     ensures short { IfOk result (λ dir. length dir ≤ 107) }

@@ -19,11 +19,11 @@ loop-text-preserved c =
     front_more c.args.names.now c.loop-text.text-index c.args.now c.match-name_in.listed c.match-name_in.visible c.text-item.result (search rules) (search rules)
     (elim c.match-name_in.branch [
       | in-Some+then-name-now w ↦
-          one_more _ _ c.args.now c.loop-text.listed c.loop-text.visible _ _ c.loop-text.invariant w.in-Some.name true (sym w.in-Some.is ∙ c.name_in.ensures)
+          one_more _ _ c.args.now c.loop-text.listed c.loop-text.visible _ _ c.loop-text.invariant w.in-Some.name true (sym w.in-Some.is ∙ c.name_in.ensures.name)
           (le-leb w.in-Some.name.visible c.args.now w.if-name-now.true) w.listed-is w.visible-is
       | in-Some+else-name-now w ↦
-          one_more _ _ c.args.now c.loop-text.listed c.loop-text.visible _ _ c.loop-text.invariant w.in-Some.name false (sym w.in-Some.is ∙ c.name_in.ensures)
+          one_more _ _ c.args.now c.loop-text.listed c.loop-text.visible _ _ c.loop-text.invariant w.in-Some.name false (sym w.in-Some.is ∙ c.name_in.ensures.name)
           (lt-leb w.in-Some.name.visible c.args.now w.if-name-now.false) w.listed-is (w.visible-is ∙ sym (add-zero c.loop-text.visible))
       | in_default w ↦
-          none_more _ _ c.args.now c.loop-text.listed c.loop-text.visible _ _ c.loop-text.invariant (sym w.in_default.is ∙ c.name_in.ensures) w.listed-is w.visible-is
+          none_more _ _ c.args.now c.loop-text.listed c.loop-text.visible _ _ c.loop-text.invariant (sym w.in_default.is ∙ c.name_in.ensures.name) w.listed-is w.visible-is
     ])
