@@ -1,5 +1,5 @@
 -- The next input of a leased task is read.
-use Rattle.std.proofs.Common.{arith, ◌≡◌, ◌≤◌, ◌<◌, ◌+◌, ◌==◌, ℕ, suc, Bool, true, false, if◌then◌else◌, List, [], ◌∷◌, ◌++◌, length, take, get_or, slice_get, Option, Some, Ok, Err, refl, sym, ap, subst, ◌∙◌}
+use Rattle.std.proofs.Common.{arith, ◌≡◌, ◌≤◌, ◌<◌, ◌+◌, ◌==◌, ℕ, suc, Bool, true, false, if◌then◌else◌, List, [], ◌∷◌, ◌++◌, length, take, get_or, slice_get, Option, Some, Ok, Err, refl, sym, ap, subst, ◌∙◌, inl, inr}
 use Rattle.std.specs.List.{All}
 use Rattle.std.proofs.lemmas.Bool.{eqb-false, eqb-true}
 use Rattle.std.proofs.lemmas.List.{map-append}
@@ -8,6 +8,7 @@ use Rattle.std.proofs.Math.Seq.{take-length, take-suc}
 use Rattle.std.proofs.lemmas.List.Elements.{All-push}
 use Rattle.std.proofs.lemmas.Option.{get_or_from_slice_get, slice_get-get_or}
 use Rattle.ig_defs.specs.declared.error.StoreError.{StoreError}
+use Rattle.ig_defs.specs.declared.error.StoreError.TheVariants as store
 use Rattle.ig_defs.specs.declared.step.Act.{Act}
 use Rattle.ig_defs.specs.Files.{Files}
 use Rattle.ig_defs.specs.Log.{Log}
@@ -29,7 +30,7 @@ use Rattle.ig_worker.specs.Steps.{answer_of, Made, turn_at}
 use Rattle.ig_worker.specs.Led.{Goes, Led}
 use Rattle.ig_worker.specs.Moves.{Move, ReadsInput, moves, said_of_input}
 use Rattle.ig_worker.specs.Places.{State, fetched, fetching, next_try, stands}
-use Rattle.ig_worker.proofs.Leading.{led_failed, led_on, read_made}
+use Rattle.ig_worker.proofs.Leading.{led_on, read_made}
 
 -- ---- the next try
 pub next_try-fits : (notes : Notes) (names : List QueueName) → AreOpen notes names → IsFitPhase notes (next_try names)
@@ -130,7 +131,9 @@ module _ (notes : Notes) (name : QueueName) (paths : List (List ℕ)) (given : L
 
   pub led_unread : (allows : Bool → Files → Act → Type 0) (old new : Log) (e : StoreError) → Answered allows old new (Reads path) (Err e)
       → Led allows old new (λ m. ReadsInput notes name paths given names m) notes notes (Err (worker_error_of e))
-  led_unread allows old new e a = led_failed allows old new (λ m. ReadsInput notes name paths given names m) notes notes (Reads path) e a (moves_fetching allows old new)
+  led_unread allows old new store.Failed (inl idled) = inl idled
+  led_unread allows old new store.Failed (inr made) = absurd made.changes
+  led_unread allows old new store.Memory idled = inl idled
 
 -- the next path, as the code finds it
 pub next_is : (paths items : List (List ℕ)) (n at : ℕ) (path item : List ℕ) → items ≡ paths → at ≡ n → item ≡ get_or items at item → path ≡ item → n < length paths → slice_get paths n ≡ Some path

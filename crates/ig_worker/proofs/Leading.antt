@@ -1,7 +1,5 @@
 -- What a call on a store comes to leads on.
 use Rattle.std.proofs.Common.{◌≡◌, ℕ, Bool, List, Option, Result, Ok, Err, IfOk, sym, ap, subst, ◌∙◌, inl, inr}
-use Rattle.ig_defs.specs.declared.error.StoreError.{StoreError}
-use Rattle.ig_defs.specs.declared.error.StoreError.TheVariants as store
 use Rattle.ig_defs.specs.declared.step.Act.{Act}
 use Rattle.ig_defs.specs.Files.{Files}
 use Rattle.ig_defs.specs.Log.{Log}
@@ -11,8 +9,7 @@ use Rattle.ig_worker.specs.declared.error.WorkerError.TheVariants.{Absent, BadRe
 use Rattle.ig_worker.specs.declared.next.Next.{Next}
 use Rattle.ig_worker.specs.declared.notes.Notes.{Notes}
 use Rattle.ig_worker.specs.declared.turn.Line.{Line}
-use Rattle.ig_defs.specs.Answers.{Answer, Answered, Call, Found, IsAnswered, Names, Put, Reads, Shifts, WasThere}
-use Rattle.ig_worker.specs.Errors.{worker_error_of}
+use Rattle.ig_defs.specs.Answers.{Answer, Found, IsAnswered, Names, Put, Reads, Shifts, WasThere}
 use Rattle.ig_worker.specs.Steps.{Made}
 use Rattle.ig_worker.specs.Led.{Goes, Led}
 use Rattle.ig_worker.specs.Moves.{Move, moves}
@@ -46,13 +43,6 @@ module _ (allows : Bool → Files → Act → Type 0) (old new : Log) (sort : Mo
     pub led_in_vain : AMove → Led allows old new sort before now (Err Memory)
     led_in_vain made = inr made
 
-    -- the call failed
-    pub led_failed : (call : Call) (e : StoreError) → Answered allows old new call (Err e) → ((answer : Answer) → IsAnswered allows old new call answer → AMove)
-        → Led allows old new sort before now (Err (worker_error_of e))
-    led_failed call store.Failed (inl idled) each = inl idled
-    led_failed call store.Failed (inr made) each = inr (each made.answer made.answered)
-    led_failed call store.Memory idled each = inl idled
-
 -- memory ran out before the call
 pub led_before : (allows : Bool → Files → Act → Type 0) (log : Log) (sort : Move → Type 0) (before now : Notes) → Led allows log log sort before now (Err Memory)
 led_before allows log sort before now = inl (idled_nothing allows log)
@@ -70,7 +60,7 @@ pub led_as : (allows : Bool → Files → Act → Type 0) (old new : Log) (sort 
     → (result : Result Next WorkerError) → Led allows old new sort before now result → Led allows old new other before now result
 led_as allows old new sort other into before now (Ok to) (m, made, next, turn) = (m, made_as allows old new sort other into m made, next, turn)
 led_as allows old new sort other into before now (Err Failed) (inl idled) = inl idled
-led_as allows old new sort other into before now (Err Failed) (inr (m, made)) = inr (m, made_as allows old new sort other into m made)
+led_as allows old new sort other into before now (Err Failed) (inr (m, made, changes)) = inr (m, made_as allows old new sort other into m made, changes)
 led_as allows old new sort other into before now (Err Memory) (inl idled) = inl idled
 led_as allows old new sort other into before now (Err Memory) (inr (m, made)) = inr (m, made_as allows old new sort other into m made)
 led_as allows old new sort other into before now (Err (Absent path)) (m, made, next) = (m, made_as allows old new sort other into m made, next)

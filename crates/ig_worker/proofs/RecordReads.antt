@@ -42,8 +42,8 @@ record_nothing allows log q n result e is memory = subst (GivesRecord allows log
 
 module _ (allows : Bool → Files → Act → Type 0) (old new : Log) (q : List ℕ) (n : ℕ) where
   failed_by : (e : StoreError) → Answered allows old new (Reads (record_path q n)) (Err e) → GivesRecord allows old new q n (Err (worker_error_of e))
-  failed_by store.Failed (inl idled) = inl idled
-  failed_by store.Failed (inr made) = inr (made.answer, made.answered)
+  failed_by store.Failed (inl idled) = idled
+  failed_by store.Failed (inr made) = absurd made.changes
   failed_by store.Memory answered = inl answered
 
   -- it failed
@@ -121,7 +121,7 @@ module _ (allows : Bool → Files → Act → Type 0) (old new : Log) (notes : N
     made (Some given.0) given.1,
     ap (learnt_by notes n unread after given.0) given.2.2 ∙ (λ i. stands notes (Broken (BadRecord (sym given.2.0 i) (sym given.2.1 i)))),
   )
-  led_by now Failed given = stopped given
+  led_by now Failed given = inl given
   led_by now Memory given = stopped given
 
   -- the read gave no stage

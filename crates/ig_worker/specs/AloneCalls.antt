@@ -1,5 +1,5 @@
 -- Where each step that the log grew by is the worker's own, its calls are those of a worker by itself.
-use Rattle.std.specs.Prelude.{◌≡◌, ℕ, Bool, true, List, [], ◌∷◌, ◌++◌, All, Contains, refl}
+use Rattle.std.specs.Prelude.{◌≡◌, ℕ, Bool, List, [], ◌∷◌, ◌++◌, All, Contains, refl}
 use Rattle.std.proofs.Common.{ap, sym, subst, true≢false, ◌∙◌}
 use Rattle.std.proofs.lemmas.List.Elements.{All-contains, All-contains_itself, All-head, All-weaker, Contains-append_left, Contains-append_right}
 use Rattle.ig_defs.specs.declared.step.Act.{Act}

@@ -26,7 +26,7 @@ use Rattle.ig_worker.specs.Knows.{Knows, memory_of}
 use Rattle.ig_worker.specs.Moves.{Move}
 use Rattle.ig_worker.specs.Places.{State, stands}
 use Rattle.ig_worker.specs.Plans.{HasLimits}
-use Rattle.ig_worker.specs.Standing.{AllowsFor, Stays}
+use Rattle.ig_worker.specs.Standing.{AllowsFor, Fits, Stays}
 use Rattle.ig_worker.specs.Steps.{Called}
 
 -- ---- a fresh worker
@@ -42,9 +42,12 @@ fresh_knows plan files = record {
   leases = λ l among. absurd (none_in l among);
 }
 
+pub fresh_fits : (plan : Plan) (now : ℕ) → HasLimits plan → Fits plan now (fresh plan)
+fresh_fits plan now limits = record { of_plan = refl; fit = record { notes = record { plan = limits; known = no_stages; at = omega arith; tried = omega arith }; phase = tt }; later = omega arith }
+
 pub fresh_stays : (plan : Plan) (now : ℕ) (log : Log) → HasLimits plan → Legal stage_reader plan.queue log → Stays plan now (fresh plan) log
 fresh_stays plan now log limits legal = record {
-  place = record { of_plan = refl; fit = record { notes = record { plan = limits; known = no_stages; at = omega arith; tried = omega arith }; phase = tt }; later = omega arith };
+  place = fresh_fits plan now limits;
   legal = legal;
   known = fresh_knows plan (files_of log);
 }

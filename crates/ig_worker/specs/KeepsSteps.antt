@@ -36,7 +36,8 @@ module _ (role : Role) (from to : ℕ) (s : State) (old new : Log) (fit : IsFit 
   maybe_legal (inr made) = called_legal made.0 made.1
 
   stopped_legal : (e : WorkerError) → StopsBy (Allows stage_reader role (Some s.notes.plan.queue)) from to s old new e → Legal stage_reader s.notes.plan.queue new
-  stopped_legal Failed by = maybe_legal by
+  stopped_legal Failed (may, inl idled) = maybe_legal (inl idled)
+  stopped_legal Failed (may, inr made) = called_legal made.0 made.1
   stopped_legal Memory by = maybe_legal by
   stopped_legal (Absent path) by = called_legal by.0 by.1
   stopped_legal (BadRecord path member) by = called_legal by.0 by.1

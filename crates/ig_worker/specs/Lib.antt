@@ -52,6 +52,12 @@ pub mod EndsSaid
 pub mod EndsListed
 pub mod EndsRecords
 pub mod Ends
+-- what follows a lease
+pub mod Leases
+pub mod LeasesPlaces
+pub mod LeasesTasks
+pub mod LeasesMoves
+pub mod LeasesCourse
 -- a worker by itself
 pub mod CanFinish
 pub mod AloneGoing

@@ -3,7 +3,7 @@ use Rattle.std.specs.Prelude.{◌≡◌, ◌⊎◌, ℕ, Bool, true, false, List
 use Rattle.ig_defs.specs.declared.step.Act.{Act}
 use Rattle.ig_defs.specs.Files.{Files}
 use Rattle.ig_defs.specs.Log.{Log}
-use Rattle.ig_defs.specs.Answers.{IsAnswered}
+use Rattle.ig_defs.specs.Answers.{IsAnswered, IsChange}
 use Rattle.ig_defs.specs.Turns.{Idled}
 use Rattle.ig_worker.specs.declared.error.WorkerError.{WorkerError}
 use Rattle.ig_worker.specs.declared.error.WorkerError.TheVariants.{Failed, Memory}
@@ -68,10 +68,17 @@ pub record IsStopped (s next : State) (e : WorkerError) : Type 0 where
   pub is : next.phase ≡ Broken kept
   pub error : (kept ≡ e) ⊎ (kept ≡ Memory)
 
--- Of an error: the record that was read isn't there, or is none; or the store failed, or memory ran out, before the call or
--- after it.
+-- whether a step from this place may make a call
+abbrev pub may_call : Phase → Bool
+may_call (Telling letters count) = false
+may_call (Over end) = false
+may_call (Broken error) = false
+may_call phase = true
+
+-- Of an error: the record that was read isn't there, or is none; or the store failed in a call, which was not made, or was made all
+-- the same and changed the files; or memory ran out, before the call or after it.
 abbrev pub StopsBy : (Bool → Files → Act → Type 0) → ℕ → ℕ → State → Log → Log → WorkerError → Type 0
-StopsBy allows from to s old new Failed = Idled allows old new ⊎ ((m : Move) × Called allows from to s old new m)
+StopsBy allows from to s old new Failed = (may_call s.phase ≡ true) × (Idled allows old new ⊎ ((m : Move) × Called allows from to s old new m × IsChange m.call m.answer))
 StopsBy allows from to s old new Memory = Idled allows old new ⊎ ((m : Move) × Called allows from to s old new m)
 StopsBy allows from to s old new error = (m : Move) × Called allows from to s old new m × (m.next ≡ stands s.notes (Broken error))
 

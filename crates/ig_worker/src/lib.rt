@@ -25,7 +25,7 @@ mod worker;
 
 pub use ahead::Ahead;
 pub use error::WorkerError;
-pub use laws::worker_alone_finishes;
+pub use laws::{worker_alone_finishes, writes_follow_leases};
 pub use next::Next;
 pub use notes::Notes;
 pub use phase::{Phase, Then};

@@ -8,7 +8,7 @@ ghost use Rattle.ig_worker.specs.Fit.{AreFitNotes, IsFitPhase};
 ghost use Rattle.ig_worker.specs.Going.{GoesOn, GoesTo, IsBrokenBy, IsSettled};
 ghost use Rattle.ig_worker.specs.Left.{IsShort, is_over, left_of};
 ghost use Rattle.ig_worker.specs.Places.{stands};
-ghost use Rattle.ig_worker.specs.Steps.{Rests, Stepped, is_last};
+ghost use Rattle.ig_worker.specs.Steps.{Rests, Stepped, is_last, may_call};
 
 use crate::ending::{list_dead, list_done};
 use crate::learning::{learn, list_stages};
@@ -105,6 +105,7 @@ fn go_on<S: Store<Pipeline>, C: Clock>(
     ensures tried { notes.old.tried ≤ notes.new.tried }
     ensures notes { AreFitNotes notes.new }
     ensures fits { IfOk result (λ next. IsFitPhase notes.new next.phase) }
+    ensures may { IfErr result (λ e. e ≡ worker.Failed → may_call phase ≡ true) }
     ensures goes { IfOk result (GoesTo (C.last clock.old) (C.last clock.new) notes.old phase notes.new) }
     ensures went { S.tells → GoesOn (is_allowed (S.rule store.old)) (C.last clock.old) (C.last clock.new) notes.old phase (S.log store.old) (S.log store.new) notes.new result }
 {

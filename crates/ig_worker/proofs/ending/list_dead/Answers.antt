@@ -9,7 +9,7 @@ pub returns-in_err-given-clause-went : goal.returns-in_err-given-clause-went
 returns-in_err-given-clause-went g c = λ tells.
     let p = err_from_is_err_and c.from_residual-in_err-given.result c.from_residual-in_err-given.ensures.1 in
     led_failed _ _ _ (ListsDead c.args.notes.now) c.args.notes.now c.args.notes.now (Lists c.in_ok-dir.dir) (dead_listed _ _ _ c.args.notes.now c.in_ok-dir.dir c.in_ok-dir.ensures.dir)
-    c.from_residual-in_err-given.result c.in_err-given.field-0.0 _ p.1 p.2 (c.in_err-given.ensures.answered tells)
+    (λ answer changes. changes) c.from_residual-in_err-given.result c.in_err-given.field-0.0 _ p.1 p.2 (c.in_err-given.ensures.answered tells)
 
 pub returns-in_err-letters-clause-went : goal.returns-in_err-letters-clause-went
 returns-in_err-letters-clause-went g c = λ tells.

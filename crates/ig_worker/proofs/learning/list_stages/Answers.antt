@@ -11,7 +11,7 @@ returns-in_err-listed-clause-went g c = λ tells.
     let p = err_from_is_err_and c.from_residual-in_err-listed.result c.from_residual-in_err-listed.ensures.1 in
     led_failed _ _ _ (ListsStages c.args.notes.now c.args.then) c.args.notes.now c.args.notes.now (Lists c.in_ok-dir.dir)
     (stages_listed _ _ _ c.args.notes.now c.args.then c.in_ok-dir.dir c.in_ok-dir.ensures.dir)
-    c.from_residual-in_err-listed.result c.in_err-listed.field-0.0 _ p.1 p.2 (c.in_err-listed.ensures.answered tells)
+    (λ answer changes. changes) c.from_residual-in_err-listed.result c.in_err-listed.field-0.0 _ p.1 p.2 (c.in_err-listed.ensures.answered tells)
 
 pub returns-in_err-unread-clause-went : goal.returns-in_err-unread-clause-went
 returns-in_err-unread-clause-went g c = λ tells.

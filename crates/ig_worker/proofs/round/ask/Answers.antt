@@ -18,7 +18,7 @@ returns-in_err-listed-clause-went g c = λ tells.
     let to = g.C.Clock.last c.now-now.new.self in
     led_failed _ _ _ (ListsQueue from to c.args.notes.now) c.args.notes.now c.args.notes.now (Lists c.in_ok-dir.dir)
     (queue_listed _ _ _ from to c.now-now.result c.now-now.ensures.later (omega (arith, c.now-now.ensures.kept)) c.args.notes.now c.in_ok-dir.dir c.in_ok-dir.ensures.dir)
-    c.from_residual-in_err-listed.result c.in_err-listed.field-0.0 _ p.1 p.2 (c.in_err-listed.ensures.answered tells)
+    (λ answer changes. changes) c.from_residual-in_err-listed.result c.in_err-listed.field-0.0 _ p.1 p.2 (c.in_err-listed.ensures.answered tells)
 
 pub returns-in_err-names-clause-went : goal.returns-in_err-names-clause-went
 returns-in_err-names-clause-went g c = λ tells.

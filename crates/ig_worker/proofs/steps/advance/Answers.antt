@@ -6,7 +6,7 @@ use Rattle.ig_worker.proofs.steps.advance.Goals as goal
 
 pub returns-clause-steps : goal.returns-clause-steps
 returns-clause-steps g c tells =
-    stepped_by _ _ _ c.args.notes.now c.args.phase _ _ c.go_on.new.notes c.go_on.result c.settle.result.0 c.settle.result.1 c.go_on.ensures.plan (c.go_on.ensures.went tells) c.settle.ensures
+    stepped_by _ _ _ c.args.notes.now c.args.phase _ _ c.go_on.new.notes c.go_on.result c.settle.result.0 c.settle.result.1 c.go_on.ensures.plan (c.go_on.ensures.went tells) c.go_on.ensures.may c.settle.ensures
 
 pub returns-clause-left : goal.returns-clause-left
 returns-clause-left g c going =
