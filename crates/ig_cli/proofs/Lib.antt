@@ -14,10 +14,12 @@ pub mod Makes
 pub mod Digits
 pub mod WorkerCourses
 pub mod WorkerSpeaks
+pub mod WorkerChanges
 pub mod WorkerSteps
 pub mod WorkerGoes
 pub mod WorkerHalts
 pub mod WorkerTexts
+pub mod WorkerTold
 pub mod WorkerRuns
 pub mod WorkerEnds
 pub mod WorkerSaid
@@ -26,4 +28,5 @@ pub mod WorkerLegal
 pub mod WorkerLoops
 pub mod WorkerMeans
 pub mod WorkerFinishes
+pub mod WorkerLeases
 pub mod TopCall

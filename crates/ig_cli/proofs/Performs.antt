@@ -72,7 +72,7 @@ nothing_since : (log : Log) → moments_since log log ≡ []
 nothing_since log =
     ap (λ steps. own_moments (files_of log) (drop (length log.steps) steps)) (sym (append-nil log.steps)) ∙ ap (own_moments (files_of log)) (drop-append_seam log.steps [])
 
-since_same : (old new : Log) → new ≡ old → moments_since old new ≡ []
+pub since_same : (old new : Log) → new ≡ old → moments_since old new ≡ []
 since_same old new same = ap (moments_since old) same ∙ nothing_since old
 
 quiet_puts : (files : Files) (acts : List Act) → AreQuiet acts → puts_of (moments_from files acts) ≡ []

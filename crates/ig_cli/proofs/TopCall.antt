@@ -25,6 +25,7 @@ use Rattle.ig_cli.specs.Rules.{queue_in_use, rule_for, rule_of_words, rule_with,
 use Rattle.ig_cli.specs.Worked.{EndsSo, HasSaid, HasWorked}
 use Rattle.ig_cli.proofs.PlanWords.{no_plan}
 use Rattle.ig_cli.proofs.WorkerMeans.{ends_so}
+use Rattle.ig_cli.proofs.WorkerTold.{all_lines}
 
 -- ---- statuses
 -- what is among a shorter list is among a longer one
@@ -88,7 +89,7 @@ unread_said : (plan : Plan) (status : ℕ) (out_before out_now : List ℕ) → s
 unread_said plan status out_before out_now seven out = record {
   all = λ six other nine. absurd (other seven);
   failed = λ six. absurd (omega (arith, seven, six));
-  part = (0, out (λ zero. omega (arith, seven, zero)) (λ nine. omega (arith, seven, nine)) ∙ sym (append-nil out_before));
+  part = all_lines [] [] out_before out_now (out (λ zero. omega (arith, seven, zero)) (λ nine. omega (arith, seven, nine)) ∙ sym (append-nil out_before));
 }
 
 pub unread_worked : (allows : Bool → Files → Act → Type 0) (plan : Plan) (at : ℕ) (old new : Log) (status : ℕ) (out_tells : Type 0) (out_before out_now : List ℕ)

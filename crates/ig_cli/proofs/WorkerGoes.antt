@@ -40,10 +40,10 @@ pub record Advances (allows : Bool → Files → Act → Type 0) (plan : Plan) (
   pub course : Course allows from (fresh plan) old ms to place new
   pub at : is_last (Ok turn) ≡ false → IsAt next place
   pub is : (said ++ said_by turn) ++ unsaid next.phase ≡ said_of ms
-  pub most : length (said_of (but_last ms)) ≤ length (said ++ said_by turn)
+  pub most : length (said_of (but_last ms)) ≤ length said
   pub ended : (e : End) → turn ≡ Ended e → (end_at place.notes place.phase ≡ Some e) × (unsaid next.phase ≡ [])
 
-more_said : (n : ℕ) (said more : List Line) → n ≤ length said → n ≤ length (said ++ more)
+pub more_said : (n : ℕ) (said more : List Line) → n ≤ length said → n ≤ length (said ++ more)
 more_said n said more h = let long = length-append said more in omega (arith, h, long)
 
 pub same_length : (ms : List Move) (said : List Line) → said ≡ said_of ms → length (said_of ms) ≤ length said
@@ -108,7 +108,7 @@ module _ (allows : Bool → Files → Act → Type 0) (plan : Plan) (from to lat
         course = course_on w m h called;
         at = λ more. Same refl;
         is = told_all said ms turn m all (said_at_once m turn speaks answered);
-        most = subst (λ ns. length (said_of ns) ≤ length (said ++ said_by turn)) (sym (but_last-append ms m)) (more_said _ said (said_by turn) (same_length ms said all));
+        most = subst (λ ns. length (said_of ns) ≤ length said) (sym (but_last-append ms m)) (same_length ms said all);
         ended = ends_at_once m turn speaks answered;
       }
 
@@ -122,7 +122,7 @@ module _ (allows : Bool → Files → Act → Type 0) (plan : Plan) (from to lat
     course = course_later allows from (fresh plan) old ms to later place mid after h.course;
     at = at;
     is = append_assoc said (said_by turn) (unsaid next.phase) ∙ ap (λ ls. said ++ ls) same ∙ h.is;
-    most = more_said _ said (said_by turn) h.most;
+    most = h.most;
     ended = ended;
   }
 

@@ -1,6 +1,5 @@
 -- A worker that has stopped at an error.
-use Rattle.std.proofs.Common.{◌≡◌, ◌≤◌, ◌⊎◌, ℕ, Bool, false, List, [], ◌∷◌, ◌++◌, length, take, Result, Err, ap, sym, subst, ◌∙◌, append-nil, inl, inr, true≢false}
-use Rattle.std.proofs.Math.Seq.{take-append_seam}
+use Rattle.std.proofs.Common.{◌≡◌, ◌≤◌, ◌⊎◌, ℕ, Bool, true, false, List, [], ◌∷◌, ◌++◌, length, Result, Err, refl, ap, sym, subst, ◌∙◌, append-nil, inl, inr, true≢false}
 use Rattle.ig_defs.specs.declared.step.Act.{Act}
 use Rattle.ig_defs.specs.Files.{Files}
 use Rattle.ig_defs.specs.Log.{Log}
@@ -16,17 +15,18 @@ use Rattle.ig_worker.specs.declared.turn.Line.{Line}
 use Rattle.ig_worker.specs.declared.turn.Turn.{Turn}
 use Rattle.ig_worker.specs.Course.{Course, fresh, said_of}
 use Rattle.ig_worker.specs.Left.{is_over}
-use Rattle.ig_worker.specs.Lines.{lines_text}
 use Rattle.ig_worker.specs.Moves.{Move}
 use Rattle.ig_worker.specs.Places.{State, stands}
-use Rattle.ig_worker.specs.Steps.{Called, Rests, Stepped, StopsBy, calls, rests, stops}
+use Rattle.ig_worker.specs.Steps.{Called, Rests, Stepped, StopsBy, calls, may_call, rests, stops}
 use Rattle.ig_cli.specs.declared.working.Stop.TheVariants as stop
-use Rattle.ig_cli.specs.Worked.{SaysAlmost, but_last}
+use Rattle.ig_cli.specs.Worked.{EndsByMove, MovesFile, SaysAtFault, SaysLines, SaysToLast, but_last}
 use Rattle.ig_cli.specs.Working.{SaysTill, StopsAt}
 use Rattle.ig_cli.proofs.WorkerCourses.{course_later}
 use Rattle.ig_cli.proofs.WorkerSpeaks.{Quiet, Says, Speaks, leads_speak, unsaid}
 use Rattle.ig_cli.proofs.WorkerSteps.{but_last-append, said_of-append}
-use Rattle.ig_cli.proofs.WorkerGoes.{Stands, all_told, course_on, same_length}
+use Rattle.ig_cli.proofs.WorkerGoes.{Stands, all_told, course_on}
+use Rattle.ig_cli.proofs.WorkerTold.{but_last_lines, says_same, told_of, whole_lines}
+use Rattle.ig_cli.proofs.WorkerChanges.{changes_say}
 
 -- the worker's moves till the error, where these lines were told
 pub record Halts (allows : Bool → Files → Act → Type 0) (plan : Plan) (from to : ℕ) (old new : Log) (said : List Line) (e : WorkerError) : Type 0 where
@@ -36,22 +36,41 @@ pub record Halts (allows : Bool → Files → Act → Type 0) (plan : Plan) (fro
   pub course : Course allows from (fresh plan) old ms to place last
   pub rest : Idled allows last new
   pub stops_at : StopsAt place (Err (stop.Worker e))
-  pub says : (before now : List ℕ) → now ≡ before ++ lines_text said → SaysTill ms (Err (stop.Worker e)) before now
+  pub says : (before now : List ℕ) → SaysLines said before now → SaysTill ms place (Err (stop.Worker e)) before now
 
 -- ---- what is told of it
-almost : (ms : List Move) (said more : List Line) (before now : List ℕ) → length (said_of (but_last ms)) ≤ length said → said ++ more ≡ said_of ms → now ≡ before ++ lines_text said
-    → SaysAlmost ms before now
-almost ms said more before now most is told = record {
-  count = length said;
-  most = most;
-  lines = told ∙ ap (λ ls. before ++ lines_text ls) (sym (take-append_seam said more) ∙ ap (take (length said)) is);
-}
+-- where it may make a call, all that it has to say was told
+nothing_unsaid : (phase : Phase) → may_call phase ≡ true → unsaid phase ≡ []
+nothing_unsaid (Telling letters count) may = absurd cc
+nothing_unsaid phase may = refl
 
-almost_called : (ms : List Move) (m : Move) (said : List Line) (before now : List ℕ) → said ≡ said_of ms → now ≡ before ++ lines_text said → SaysAlmost (ms ++ m ∷ []) before now
-almost_called ms m said before now all told =
-    almost (ms ++ m ∷ []) said (said_of (m ∷ [])) before now
-    (subst (λ ns. length (said_of ns) ≤ length said) (sym (but_last-append ms m)) (same_length ms said all))
-    (ap (λ ls. ls ++ said_of (m ∷ [])) all ∙ sym (said_of-append ms (m ∷ []))) told
+-- no call was made
+fault_before : (ms : List Move) (phase : Phase) (said : List Line) (before now : List ℕ) → said ++ unsaid phase ≡ said_of ms → may_call phase ≡ true → SaysLines said before now → SaysAtFault ms before now
+fault_before ms phase said before now is may told =
+    inl (says_same said (said_of ms) before now (sym (append-nil said) ∙ ap (λ ls. said ++ ls) (sym (nothing_unsaid phase may)) ∙ is) told)
+
+stops_before : (ms : List Move) (phase : Phase) (said : List Line) (before now : List ℕ) → said ++ unsaid phase ≡ said_of ms → length (said_of (but_last ms)) ≤ length said → SaysLines said before now
+    → SaysToLast ms [] before now
+stops_before ms phase said before now is most told =
+    let s = told_of ms said (unsaid phase) is most in
+    whole_lines ms [] before now s.told (unsaid phase) s.rest (says_same said (said_of (but_last ms) ++ s.told) before now s.is told)
+
+-- this call was made, and its line was not told
+lines_before : (ms : List Move) (m : Move) (said : List Line) (before now : List ℕ) → said ≡ said_of ms → SaysLines said before now → SaysLines (said_of (but_last (ms ++ m ∷ []))) before now
+lines_before ms m said before now all told = says_same said (said_of (but_last (ms ++ m ∷ []))) before now (all ∙ ap said_of (sym (but_last-append ms m))) told
+
+ends_by : (ms : List Move) (m : Move) → MovesFile m.call m.answer → EndsByMove (ms ++ m ∷ [])
+ends_by [] m moved = moved
+ends_by (first ∷ []) m moved = moved
+ends_by (first ∷ next ∷ ms) m moved = ends_by (next ∷ ms) m moved
+
+quiet_said : (ms : List Move) (m : Move) → m.said ≡ [] → said_of (ms ++ m ∷ []) ≡ said_of ms
+quiet_said ms m nothing = said_of-append ms (m ∷ []) ∙ ap (λ ls. said_of ms ++ (ls ++ [])) nothing ∙ append-nil (said_of ms)
+
+-- this call was made, though it failed: it moved a file, or it has nothing to say
+fault_after : (ms : List Move) (m : Move) (said : List Line) (before now : List ℕ) → said ≡ said_of ms → MovesFile m.call m.answer ⊎ (m.said ≡ []) → SaysLines said before now → SaysAtFault (ms ++ m ∷ []) before now
+fault_after ms m said before now all (inl moved) told = inr (ends_by ms m moved, lines_before ms m said before now all told)
+fault_after ms m said before now all (inr nothing) told = inl (says_same said (said_of (ms ++ m ∷ [])) before now (all ∙ sym (quiet_said ms m nothing)) told)
 
 -- the answer of a step that stops at this error
 abbrev fails : WorkerError → Result Turn WorkerError
@@ -60,9 +79,6 @@ fails e = Err e
 broken_quiet : (m : Move) (s : Notes) (e : WorkerError) → Speaks m → m.next ≡ stands s (Broken e) → m.said ≡ []
 broken_quiet m s e (Quiet nothing none) is = nothing
 broken_quiet m s e (Says l says more) is = absurd (true≢false (sym (ap (λ n. is_over n.phase) is) ∙ more))
-
-quiet_said : (ms : List Move) (m : Move) → m.said ≡ [] → said_of (ms ++ m ∷ []) ≡ said_of ms
-quiet_said ms m nothing = said_of-append ms (m ∷ []) ∙ ap (λ ls. said_of ms ++ (ls ++ [])) nothing ∙ append-nil (said_of ms)
 
 same_error : (e error : WorkerError) → fails e ≡ fails error → error ≡ e
 same_error e error is = cc
@@ -85,28 +101,46 @@ no_rest notes (ListingDone letters) next e going rested = rested
 
 module _ (allows : Bool → Files → Act → Type 0) (plan : Plan) (from to later : ℕ) (after : to ≤ later) (old mid new : Log) (ms : List Move) (place : State) (said : List Line)
     (w : State) (h : Stands allows plan from to old mid w ms place said) where
-  failed : (Idled allows mid new ⊎ ((m : Move) × Called allows to later w mid new m)) → Halts allows plan from later old new said Failed
-  failed (inl idled) = record {
+  failed : StopsBy allows to later w mid new Failed → Halts allows plan from later old new said Failed
+  failed (may, inl idled) = record {
     ms = ms;
     place = place;
     last = mid;
     course = course_later allows from (fresh plan) old ms to later place mid after h.course;
     rest = idled;
     stops_at = tt;
-    says = λ before now told. almost ms said (unsaid w.phase) before now h.most h.is told;
+    says = λ before now told. fault_before ms w.phase said before now h.is may told;
   }
-  failed (inr called) = record {
-    ms = ms ++ called.0 ∷ [];
-    place = called.0.next;
+  failed (may, inr (m, called, changes)) = record {
+    ms = ms ++ m ∷ [];
+    place = m.next;
     last = new;
-    course = course_on allows plan from to later after old mid new ms place said w called.0 h called.1;
+    course = course_on allows plan from to later after old mid new ms place said w m h called;
     rest = idled_nothing allows new;
     stops_at = tt;
-    says = λ before now told. almost_called ms called.0 said before now (all_told allows plan from to later after old mid new ms place said w called.0 h called.1) told;
+    says = λ before now told.
+        fault_after ms m said before now (all_told allows plan from to later after old mid new ms place said w m h called) (changes_say to later w.notes w.phase m called.leads changes) told;
   }
 
-  no_memory : (Idled allows mid new ⊎ ((m : Move) × Called allows to later w mid new m)) → Halts allows plan from later old new said Memory
-  no_memory by = let f = failed by in record { ms = f.ms; place = f.place; last = f.last; course = f.course; rest = f.rest; stops_at = tt; says = f.says }
+  no_memory : StopsBy allows to later w mid new Memory → Halts allows plan from later old new said Memory
+  no_memory (inl idled) = record {
+    ms = ms;
+    place = place;
+    last = mid;
+    course = course_later allows from (fresh plan) old ms to later place mid after h.course;
+    rest = idled;
+    stops_at = tt;
+    says = λ before now told. stops_before ms w.phase said before now h.is h.most told;
+  }
+  no_memory (inr (m, called)) = record {
+    ms = ms ++ m ∷ [];
+    place = m.next;
+    last = new;
+    course = course_on allows plan from to later after old mid new ms place said w m h called;
+    rest = idled_nothing allows new;
+    stops_at = tt;
+    says = λ before now told. but_last_lines (ms ++ m ∷ []) [] before now (lines_before ms m said before now (all_told allows plan from to later after old mid new ms place said w m h called) told);
+  }
 
   said_broken : (m : Move) (e : WorkerError) → Called allows to later w mid new m → m.next ≡ stands w.notes (Broken e) → said ≡ said_of (ms ++ m ∷ [])
   said_broken m e called is =
@@ -121,7 +155,7 @@ module _ (allows : Bool → Files → Act → Type 0) (plan : Plan) (from to lat
     course = course_on allows plan from to later after old mid new ms place said w by.0 h by.1;
     rest = idled_nothing allows new;
     stops_at = ap (λ n. n.phase) by.2;
-    says = λ before now told. told ∙ ap (λ ls. before ++ lines_text ls) (said_broken by.0 (Absent path) by.1 by.2);
+    says = λ before now told. says_same said (said_of (ms ++ by.0 ∷ [])) before now (said_broken by.0 (Absent path) by.1 by.2) told;
   }
 
   bad_record : (path member : List ℕ) → StopsBy allows to later w mid new (BadRecord path member) → Halts allows plan from later old new said (BadRecord path member)
@@ -132,7 +166,7 @@ module _ (allows : Bool → Files → Act → Type 0) (plan : Plan) (from to lat
     course = course_on allows plan from to later after old mid new ms place said w by.0 h by.1;
     rest = idled_nothing allows new;
     stops_at = ap (λ n. n.phase) by.2;
-    says = λ before now told. told ∙ ap (λ ls. before ++ lines_text ls) (said_broken by.0 (BadRecord path member) by.1 by.2);
+    says = λ before now told. says_same said (said_of (ms ++ by.0 ∷ [])) before now (said_broken by.0 (BadRecord path member) by.1 by.2) told;
   }
 
   halts_by : (e : WorkerError) → StopsBy allows to later w mid new e → Halts allows plan from later old new said e

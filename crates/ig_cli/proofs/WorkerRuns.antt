@@ -18,12 +18,14 @@ use Rattle.ig_worker.specs.Places.{State}
 use Rattle.ig_worker.specs.Steps.{Stepped, is_last}
 use Rattle.ig_cli.specs.declared.working.Stop.{Stop}
 use Rattle.ig_cli.specs.declared.working.Stop.TheVariants as stop
+use Rattle.ig_cli.specs.Worked.{but_last, said_last}
 use Rattle.ig_cli.specs.Working.{Answers, Ran, TakesLine, Turned}
 use Rattle.ig_cli.proofs.WorkerSpeaks.{unsaid}
 use Rattle.ig_cli.proofs.WorkerSteps.{Same, said_by}
-use Rattle.ig_cli.proofs.WorkerGoes.{Advances, Stands, steps_on}
+use Rattle.ig_cli.proofs.WorkerGoes.{Advances, Stands, more_said, steps_on}
 use Rattle.ig_cli.proofs.WorkerHalts.{Halts, halts}
-use Rattle.ig_cli.proofs.WorkerTexts.{line_part, lines_part, lines_text-append}
+use Rattle.ig_cli.proofs.WorkerTexts.{lines_text-append}
+use Rattle.ig_cli.proofs.WorkerTold.{Splits, all_lines, cut_line, says_same, told_of, whole_lines}
 
 -- A worker of this plan, its moves so far, and what the output took.
 pub record Along (allows : Bool → Files → Act → Type 0) (plan : Plan) (from to : ℕ) (old new : Log) (w : State) (tells : Type 0) (before now : List ℕ) : Type 0 where
@@ -52,7 +54,7 @@ not_begun allows plan from old tells before = record {
   course = (omega arith, refl, refl);
   rest = idled_nothing allows old;
   stops = tt;
-  said = λ t. (0, sym (append-nil before));
+  said = λ t. all_lines [] [] before before (sym (append-nil before));
 }
 
 -- results of a turn
@@ -83,7 +85,7 @@ module _ (allows : Bool → Files → Act → Type 0) (plan : Plan) (from to lat
     ms = a.ms;
     place = a.place;
     said = h.said ++ said_by turn;
-    stands = record { course = a.course; at = a.at goes; is = a.is; most = a.most };
+    stands = record { course = a.course; at = a.at goes; is = a.is; most = more_said _ h.said (said_by turn) a.most };
     taken = λ t. took t ∙ ap (λ xs. xs ++ lines_text (said_by turn)) (h.taken t) ∙ append_assoc before (lines_text h.said) (lines_text (said_by turn))
         ∙ ap (λ xs. before ++ xs) (sym (lines_text-append h.said (said_by turn)));
   }
@@ -135,26 +137,33 @@ module _ (allows : Bool → Files → Act → Type 0) (plan : Plan) (from to lat
     said = λ t. a.says before then (took t ∙ h.taken t);
   }
 
+  told_of_last : (l : Line) → (a : Advances allows plan from later old new next h.said (Said l)) → Splits (said_of (but_last a.ms)) (said_last a.ms) h.said (l ∷ unsaid next.phase)
+  told_of_last l a = told_of a.ms h.said (l ∷ unsaid next.phase) (sym (append_assoc h.said (l ∷ []) (unsaid next.phase)) ∙ a.is) a.most
+
   cut : (l : Line) (e : Stop) → Advances allows plan from later old new next h.said (Said l) → TakesLine tells l now then (Err e) → Ran allows plan from later old new tells before then (Err e)
   cut l (stop.Worker e) a took = absurd took
-  cut l stop.Output a took = record {
-    ms = a.ms;
-    place = a.place;
-    last = new;
-    course = a.course;
-    rest = idled_nothing allows new;
-    stops = tt;
-    said = λ t. line_part before now then h.said l (unsaid next.phase) (said_of a.ms) a.is (h.taken t) (took t);
-  }
-  cut l stop.Memory a took = record {
-    ms = a.ms;
-    place = a.place;
-    last = new;
-    course = a.course;
-    rest = idled_nothing allows new;
-    stops = tt;
-    said = λ t. lines_part before then h.said ((l ∷ []) ++ unsaid next.phase) (said_of a.ms) (sym (append_assoc h.said (l ∷ []) (unsaid next.phase)) ∙ a.is) (took t ∙ h.taken t);
-  }
+  cut l stop.Output a took =
+      let s = told_of_last l a in
+      record {
+        ms = a.ms;
+        place = a.place;
+        last = new;
+        course = a.course;
+        rest = idled_nothing allows new;
+        stops = tt;
+        said = λ t. cut_line a.ms [] before now then s.told (unsaid next.phase) l s.rest (says_same h.said (said_of (but_last a.ms) ++ s.told) before now s.is (h.taken t)) (took t);
+      }
+  cut l stop.Memory a took =
+      let s = told_of_last l a in
+      record {
+        ms = a.ms;
+        place = a.place;
+        last = new;
+        course = a.course;
+        rest = idled_nothing allows new;
+        stops = tt;
+        said = λ t. whole_lines a.ms [] before then s.told (l ∷ unsaid next.phase) s.rest (says_same h.said (said_of (but_last a.ms) ++ s.told) before then s.is (took t ∙ h.taken t));
+      }
 
   stopped_by : (answer : Result Turn WorkerError) (e : Stop) → Stepped allows to later w mid new next answer → Answers tells answer now then (Err e) → Ran allows plan from later old new tells before then (Err e)
   stopped_by (Ok On) e stepped a = let is = a.0 in absurd cc

@@ -1,11 +1,9 @@
 -- What was printed of a worker's run.
-use Rattle.std.proofs.Common.{◌≡◌, ◌⊎◌, ℕ, Bool, List, [], ◌++◌, length, take, drop, take-append-drop, Some, option_map, Result, Ok, Err, refl, ap, sym, subst, ◌∙◌, append_assoc, append-nil, arith, inl, inr}
-use Rattle.std.proofs.Math.Seq.{take-length}
+use Rattle.std.proofs.Common.{◌≡◌, ◌⊎◌, ℕ, Bool, List, [], ◌++◌, Some, option_map, Result, Ok, Err, refl, ap, sym, subst, ◌∙◌, append_assoc, append-nil, arith, inl, inr}
 use Rattle.ig_defs.specs.Causes.{Rose}
 use Rattle.ig_defs.specs.declared.step.Act.{Act}
 use Rattle.ig_defs.specs.Files.{Files}
 use Rattle.ig_defs.specs.Log.{Log}
-use Rattle.ig_store.specs.Sink.{TakesPrefix}
 use Rattle.ig_worker.specs.declared.error.WorkerError.{WorkerError}
 use Rattle.ig_worker.specs.declared.error.WorkerError.TheVariants.{Absent, BadRecord, Failed, Memory}
 use Rattle.ig_worker.specs.declared.notes.Notes.{Notes}
@@ -20,9 +18,9 @@ use Rattle.ig_worker.specs.Places.{State}
 use Rattle.ig_cli.specs.declared.working.Stop.{Stop}
 use Rattle.ig_cli.specs.declared.working.Stop.TheVariants as stop
 use Rattle.ig_cli.specs.Report.{Ends, HasTold, err_line, own_line}
-use Rattle.ig_cli.specs.Worked.{HasSaid, HasWarned, HasWorked, IsStatusAt, SaysAlmost, complaint_at, last_text, status_at, status_of_end, text_of}
+use Rattle.ig_cli.specs.Worked.{HasSaid, HasWarned, HasWorked, IsStatusAt, SaysAtFault, SaysLines, SaysToLast, complaint_at, last_text, status_at, status_of_end}
 use Rattle.ig_cli.specs.Working.{IsStatusOfRun, Ran, SaysEnd, SaysTill, StopsAt, TakesEnd, ending_of_run}
-use Rattle.ig_cli.proofs.WorkerTexts.{lines_part, part_after, part_longer}
+use Rattle.ig_cli.proofs.WorkerTold.{all_lines, cut_text, fault_lines, with_text}
 use Rattle.ig_cli.proofs.WorkerEnds.{ok_no_fault, own_line_at, told_memory, told_store}
 
 -- ---- the status is that of the place
@@ -53,56 +51,46 @@ status_at_place (Err stop.Memory) place status stops is = inr (inr (inl is))
 
 -- ---- on standard output
 module _ (ms : List Move) (place : State) (before mid now : List ℕ) where
-  -- a first part of the lines is one of all of it
-  lines_in_text : (now : List ℕ) → TakesPrefix before (lines_text (said_of ms)) now → TakesPrefix before (text_of ms place) now
-  lines_in_text now p =
-      let k = part_longer p.0 (lines_text (said_of ms)) (last_text (end_at place.notes place.phase)) in
-      (k.0, p.1 ∙ ap (λ xs. before ++ xs) k.1)
-
-  almost_part : (now : List ℕ) → SaysAlmost ms before now → TakesPrefix before (lines_text (said_of ms)) now
-  almost_part now h = lines_part before now (take h.count (said_of ms)) (drop h.count (said_of ms)) (said_of ms) (take-append-drop h.count (said_of ms)) h.lines
-
   -- at 7 or 9 a first part is enough
-  part_said : (status : ℕ) → (status ≡ 7) ⊎ (status ≡ 9) → TakesPrefix before (lines_text (said_of ms)) now → HasSaid ms place status before now
-  part_said status (inl is) p = record { all = λ six seven nine. absurd (seven is); failed = λ six. absurd (omega (arith, is, six)); part = lines_in_text now p }
-  part_said status (inr is) p = record { all = λ six seven nine. absurd (nine is); failed = λ six. absurd (omega (arith, is, six)); part = lines_in_text now p }
+  part_said : (status : ℕ) → (status ≡ 7) ⊎ (status ≡ 9) → SaysToLast ms [] before now → HasSaid ms place status before now
+  part_said status (inl is) p = record { all = λ six seven nine. absurd (seven is); failed = λ six. absurd (omega (arith, is, six)); part = with_text ms (last_text (end_at place.notes place.phase)) before now p }
+  part_said status (inr is) p = record { all = λ six seven nine. absurd (nine is); failed = λ six. absurd (omega (arith, is, six)); part = with_text ms (last_text (end_at place.notes place.phase)) before now p }
 
-  almost_said : (status : ℕ) → status ≡ 6 → SaysAlmost ms before now → HasSaid ms place status before now
-  almost_said status is h = record { all = λ six seven nine. absurd (six is); failed = λ six. h; part = lines_in_text now (almost_part now h) }
+  fault_said : (status : ℕ) → status ≡ 6 → SaysAtFault ms before now → HasSaid ms place status before now
+  fault_said status is h = record {
+    all = λ six seven nine. absurd (six is);
+    failed = λ six. h;
+    part = fault_lines ms (last_text (end_at place.notes place.phase)) before now h;
+  }
 
-  all_part : now ≡ before ++ lines_text (said_of ms) → TakesPrefix before (lines_text (said_of ms)) now
-  all_part is = (length (lines_text (said_of ms)), is ∙ ap (λ xs. before ++ xs) (sym (take-length (lines_text (said_of ms)))))
-
-  broken_said : (status : ℕ) (e : WorkerError) → place.phase ≡ Broken e → (status ≡ 5) ⊎ (status ≡ 7) → now ≡ before ++ lines_text (said_of ms) → HasSaid ms place status before now
+  broken_said : (status : ℕ) (e : WorkerError) → place.phase ≡ Broken e → (status ≡ 5) ⊎ (status ≡ 7) → SaysLines (said_of ms) before now → HasSaid ms place status before now
   broken_said status e at (inl is) told = record {
     all = λ six seven nine. told ∙ ap (λ xs. before ++ xs) (sym (append-nil (lines_text (said_of ms)))) ∙ ap (λ p. before ++ (lines_text (said_of ms) ++ last_text (end_at place.notes p))) (sym at);
     failed = λ six. absurd (omega (arith, is, six));
-    part = lines_in_text now (all_part told);
+    part = all_lines ms (last_text (end_at place.notes place.phase)) before now told;
   }
-  broken_said status e at (inr is) told = part_said status (inl is) (all_part told)
+  broken_said status e at (inr is) told = part_said status (inl is) (all_lines ms [] before now told)
 
-  ended_said : (status : ℕ) (e : End) → ¬ (status ≡ 6) → end_at place.notes place.phase ≡ Some e → mid ≡ before ++ lines_text (said_of ms) → TakesEnd (end_text e) status mid now
+  ended_said : (status : ℕ) (e : End) → ¬ (status ≡ 6) → end_at place.notes place.phase ≡ Some e → SaysLines (said_of ms) before mid → TakesEnd (end_text e) status mid now
       → HasSaid ms place status before now
   ended_said status e other at told took =
       let last : end_text e ≡ last_text (end_at place.notes place.phase) = ap last_text (sym at) in
-      let part = part_after before (lines_text (said_of ms)) (end_text e) [] now (subst (λ b. TakesPrefix b (end_text e) now) told took.part) in
       record {
         all = λ six seven nine. took.all seven nine ∙ ap (λ xs. xs ++ end_text e) told ∙ append_assoc before (lines_text (said_of ms)) (end_text e)
             ∙ ap (λ text. before ++ (lines_text (said_of ms) ++ text)) last;
         failed = λ six. absurd (other six);
-        part = subst (λ text. TakesPrefix before (lines_text (said_of ms) ++ text) now) (append-nil (end_text e) ∙ last) part;
+        part = subst (λ text. SaysToLast ms text before now) last (cut_text ms (end_text e) before mid now told took.part);
       }
 
-pub said : (ran : Result End Stop) (ms : List Move) (place : State) (status : ℕ) (before mid now : List ℕ) → StopsAt place ran → IsStatusOfRun ran status → SaysTill ms ran before mid → SaysEnd ran status mid now
+pub said : (ran : Result End Stop) (ms : List Move) (place : State) (status : ℕ) (before mid now : List ℕ) → StopsAt place ran → IsStatusOfRun ran status → SaysTill ms place ran before mid → SaysEnd ran status mid now
     → HasSaid ms place status before now
 said (Ok e) ms place status before mid now stops is told took = ended_said ms place before mid now status e (ok_no_fault e status is).six stops told took
 said (Err (stop.Worker (Absent path))) ms place status before mid now stops is told same = broken_said ms place before mid now status (Absent path) stops is (same ∙ told)
 said (Err (stop.Worker (BadRecord path member))) ms place status before mid now stops is told same = broken_said ms place before mid now status (BadRecord path member) stops is (same ∙ told)
-said (Err (stop.Worker Failed)) ms place status before mid now stops is told same = almost_said ms place before mid now status is (subst (SaysAlmost ms before) (sym same) told)
-said (Err (stop.Worker Memory)) ms place status before mid now stops is told same =
-    part_said ms place before mid now status (inl is) (subst (TakesPrefix before (lines_text (said_of ms))) (sym same) (almost_part ms place before mid now mid told))
-said (Err stop.Output) ms place status before mid now stops is told same = part_said ms place before mid now status (inr is) (subst (TakesPrefix before (lines_text (said_of ms))) (sym same) told)
-said (Err stop.Memory) ms place status before mid now stops is told same = part_said ms place before mid now status (inl is) (subst (TakesPrefix before (lines_text (said_of ms))) (sym same) told)
+said (Err (stop.Worker Failed)) ms place status before mid now stops is told same = fault_said ms place before mid now status is (subst (SaysAtFault ms before) (sym same) told)
+said (Err (stop.Worker Memory)) ms place status before mid now stops is told same = part_said ms place before mid now status (inl is) (subst (SaysToLast ms [] before) (sym same) told)
+said (Err stop.Output) ms place status before mid now stops is told same = part_said ms place before mid now status (inr is) (subst (SaysToLast ms [] before) (sym same) told)
+said (Err stop.Memory) ms place status before mid now stops is told same = part_said ms place before mid now status (inl is) (subst (SaysToLast ms [] before) (sym same) told)
 
 -- ---- on standard error
 complaint : (ran : Result End Stop) (place : State) (status : ℕ) → StopsAt place ran → IsStatusOfRun ran status → status ≡ 5 → own_line (Ends (ending_of_run ran)) ≡ complaint_at place.phase

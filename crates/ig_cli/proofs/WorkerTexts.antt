@@ -15,6 +15,9 @@ part_longer zero text more = (0, refl)
 part_longer (suc n) [] more = (0, refl)
 part_longer (suc n) (x ∷ text) more = let p = part_longer n text more in (suc p.0, ap (λ xs. x ∷ xs) p.1)
 
+pub then_text : (before text more now : List ℕ) → TakesPrefix before text now → TakesPrefix before (text ++ more) now
+then_text before text more now p = let k = part_longer p.0 text more in (k.0, p.1 ∙ ap (λ xs. before ++ xs) k.1)
+
 -- and, after a text, of both
 pub part_after : (before first text more now : List ℕ) → TakesPrefix (before ++ first) text now → TakesPrefix before (first ++ (text ++ more)) now
 part_after before first text more now p =

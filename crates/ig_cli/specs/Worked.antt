@@ -1,5 +1,6 @@
 -- What the worker of `execute` did, and what was printed of it.
-use Rattle.std.specs.Prelude.{◌≡◌, ◌⊎◌, ◌≤◌, ℕ, Bool, List, [], ◌∷◌, ◌++◌, length, take, Option, None, Some, option_map}
+use Rattle.std.specs.Prelude.{◌≡◌, ◌⊎◌, ℕ, Bool, true, List, [], ◌∷◌, ◌++◌, Option, None, Some, option_map}
+use Rattle.ig_defs.specs.Answers.{Answer, Call, Shifts, WasThere}
 use Rattle.ig_defs.specs.Causes.{Rose}
 use Rattle.ig_defs.specs.Log.{Log, files_of}
 use Rattle.ig_defs.specs.Files.{Files}
@@ -20,6 +21,7 @@ use Rattle.ig_worker.specs.declared.phase.Phase.TheVariants.{Broken}
 use Rattle.ig_worker.specs.declared.plan.Plan.{Plan}
 use Rattle.ig_worker.specs.declared.turn.End.{End}
 use Rattle.ig_worker.specs.declared.turn.End.TheVariants.{Finished, Waiting, Letters, Spent}
+use Rattle.ig_worker.specs.declared.turn.Line.{Line}
 use Rattle.ig_worker.specs.AtEnd.{Ended as HasEnded, Finishes, Tells, Waits}
 use Rattle.ig_worker.specs.Course.{Course, end_at, fresh, said_of}
 use Rattle.ig_worker.specs.Lines.{end_text, lines_text}
@@ -60,18 +62,42 @@ but_last [] = []
 but_last (m ∷ []) = []
 but_last (m ∷ next ∷ ms) = m ∷ but_last (next ∷ ms)
 
--- the first lines of these moves, perhaps without some of the last move
-pub record SaysAlmost (ms : List Move) (before now : List ℕ) : Type 0 where
-  pub count : ℕ
-  pub most : length (said_of (but_last ms)) ≤ count
-  pub lines : now ≡ before ++ lines_text (take count (said_of ms))
+-- what the last one says
+abbrev pub said_last : List Move → List Line
+said_last [] = []
+said_last (m ∷ []) = m.said
+said_last (m ∷ next ∷ ms) = said_last (next ∷ ms)
 
--- On standard output: all of it; at a fault of the store its lines, perhaps without some of the last move; where memory ran out
--- or the output failed, some first part.
+-- these lines
+abbrev pub SaysLines : List Line → List ℕ → List ℕ → Type 0
+SaysLines lines before now = now ≡ before ++ lines_text lines
+
+-- The lines of all moves but the last, whole, and some first part of what the last one says and of this text.
+abbrev pub SaysToLast : List Move → List ℕ → List ℕ → List ℕ → Type 0
+SaysToLast ms text before now = TakesPrefix (before ++ lines_text (said_of (but_last ms))) (lines_text (said_last ms) ++ text) now
+
+-- of a call and what it found: it moved a file
+abbrev pub MovesFile : Call → Answer → Type 0
+MovesFile (Shifts from to) (WasThere there) = there ≡ true
+MovesFile call answer = ⊥
+
+-- the last own step moved a file
+abbrev pub EndsByMove : List Move → Type 0
+EndsByMove [] = ⊥
+EndsByMove (m ∷ []) = MovesFile m.call m.answer
+EndsByMove (m ∷ next ∷ ms) = EndsByMove (next ∷ ms)
+
+-- At a fault of the store: the lines of all own steps; or these without the line of the last one, where that moved a file: its call
+-- may be the one that failed.
+abbrev pub SaysAtFault : List Move → List ℕ → List ℕ → Type 0
+SaysAtFault ms before now = SaysLines (said_of ms) before now ⊎ (EndsByMove ms × SaysLines (said_of (but_last ms)) before now)
+
+-- On standard output: all of it, but where the store failed, memory ran out or the output failed; and at each status the lines of
+-- all moves but the last, whole, with some first part of what the last move and the end say. So a fault of the output ends it at once.
 pub record HasSaid (ms : List Move) (place : State) (status : ℕ) (before now : List ℕ) : Type 0 where
   pub all : ¬ (status ≡ 6) → ¬ (status ≡ 7) → ¬ (status ≡ 9) → now ≡ before ++ text_of ms place
-  pub failed : status ≡ 6 → SaysAlmost ms before now
-  pub part : TakesPrefix before (text_of ms place) now
+  pub failed : status ≡ 6 → SaysAtFault ms before now
+  pub part : SaysToLast ms (last_text (end_at place.notes place.phase)) before now
 
 -- the line of the error that has stopped it
 abbrev pub complaint_at : Phase → List ℕ

@@ -1,5 +1,5 @@
 -- The run of a worker: its turns, and how it stops.
-use Rattle.std.specs.Prelude.{◌≡◌, ◌⊎◌, ℕ, Bool, List, ◌++◌, Option, None, Some, Result, Ok, Err}
+use Rattle.std.specs.Prelude.{◌≡◌, ◌⊎◌, ℕ, Bool, List, [], ◌++◌, Option, None, Some, Result, Ok, Err}
 use Rattle.ig_defs.specs.Causes.{Rose}
 use Rattle.ig_defs.specs.Log.{Log}
 use Rattle.ig_defs.specs.Files.{Files}
@@ -16,14 +16,14 @@ use Rattle.ig_worker.specs.declared.turn.Line.{Line}
 use Rattle.ig_worker.specs.declared.turn.Turn.{Turn}
 use Rattle.ig_worker.specs.declared.turn.Turn.TheVariants.{On, Said, Ended}
 use Rattle.ig_worker.specs.Course.{Course, end_at, fresh, said_of}
-use Rattle.ig_worker.specs.Lines.{end_text, line_text, lines_text}
+use Rattle.ig_worker.specs.Lines.{end_text, line_text}
 use Rattle.ig_worker.specs.Moves.{Move}
 use Rattle.ig_worker.specs.Places.{State}
 use Rattle.ig_worker.specs.Steps.{Stepped}
 use Rattle.ig_cli.specs.declared.working.Stop.{Stop}
 use Rattle.ig_cli.specs.declared.working.Stop.TheVariants as stop
 use Rattle.ig_cli.specs.Report.{ending_of_worker}
-use Rattle.ig_cli.specs.Worked.{SaysAlmost, status_of_end}
+use Rattle.ig_cli.specs.Worked.{SaysAtFault, SaysLines, SaysToLast, status_of_end}
 
 -- ---- why a run stops
 -- a fault of the store, or of the output, has its cause in the call
@@ -68,14 +68,14 @@ StopsAt place (Err (stop.Worker error)) = place.phase ≡ Broken error
 StopsAt place (Err stop.Output) = Unit {0}
 StopsAt place (Err stop.Memory) = Unit {0}
 
--- what the output took of the lines of these moves
-abbrev pub SaysTill : List Move → Result End Stop → List ℕ → List ℕ → Type 0
-SaysTill ms (Ok end) before now = now ≡ before ++ lines_text (said_of ms)
-SaysTill ms (Err (stop.Worker Failed)) before now = SaysAlmost ms before now
-SaysTill ms (Err (stop.Worker Memory)) before now = SaysAlmost ms before now
-SaysTill ms (Err (stop.Worker error)) before now = now ≡ before ++ lines_text (said_of ms)
-SaysTill ms (Err stop.Output) before now = TakesPrefix before (lines_text (said_of ms)) now
-SaysTill ms (Err stop.Memory) before now = TakesPrefix before (lines_text (said_of ms)) now
+-- what the output took of the lines of these moves, which led here
+abbrev pub SaysTill : List Move → State → Result End Stop → List ℕ → List ℕ → Type 0
+SaysTill ms place (Ok end) before now = SaysLines (said_of ms) before now
+SaysTill ms place (Err (stop.Worker Failed)) before now = SaysAtFault ms before now
+SaysTill ms place (Err (stop.Worker Memory)) before now = SaysToLast ms [] before now
+SaysTill ms place (Err (stop.Worker error)) before now = SaysLines (said_of ms) before now
+SaysTill ms place (Err stop.Output) before now = SaysToLast ms [] before now
+SaysTill ms place (Err stop.Memory) before now = SaysToLast ms [] before now
 
 -- The moves of a worker of this plan, till it stopped so.
 pub record Ran (allows : Bool → Files → Act → Type 0) (plan : Plan) (from to : ℕ) (old new : Log) (out_tells : Type 0) (before now : List ℕ) (result : Result End Stop) : Type 0 where
@@ -85,7 +85,7 @@ pub record Ran (allows : Bool → Files → Act → Type 0) (plan : Plan) (from 
   pub course : Course allows from (fresh plan) old ms to place last
   pub rest : Idled allows last new
   pub stops : StopsAt place result
-  pub said : out_tells → SaysTill ms result before now
+  pub said : out_tells → SaysTill ms place result before now
 
 -- ---- how a run is concluded
 -- the statuses that may come; 7 in place of others where memory for the line runs out, 9 where the output fails

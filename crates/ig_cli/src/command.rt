@@ -27,6 +27,7 @@ ghost use Rattle.ig_stage.specs.Requests.{shown_request, HasLimits};
 ghost use Rattle.ig_task.specs.Facts.{stage_reader};
 ghost use Rattle.ig_task.specs.Pipeline.{is_allowed};
 ghost use Rattle.ig_worker.specs.CanFinish.{CanFinish};
+ghost use Rattle.ig_worker.specs.Leases.{FollowLeases};
 ghost use Rattle.ig_worker.specs.Words.{plan_of_words};
 ghost use Rattle.ig_worker.specs.declared.plan.Plan.{Plan};
 ghost use Rattle.ig_cli.specs.Rules.{queue_in_use, rule_of_words};
@@ -272,6 +273,10 @@ pub fn igneous<R: Threads + Sync, S: Store<Pipeline>, C: Clock, O: Sink, E: Sink
     // stages began is finished; at 3 so many tasks were not done, and none could be leased; at 4 there were dead letters; 5 never comes.
     ensures worked { S.tells → (plan : Plan) → plan_of_words (texts_of words.now.items) ≡ Some plan → HasWorked (is_allowed (S.rule store.old)) plan (C.last clock.old) (C.last clock.new) (S.log store.old) (S.log store.new) result O.tells (O.taken out.old) (O.taken out.new) E.tells (E.faults err.old) (E.faults err.new) (E.taken err.old) (E.taken err.new) }
     ensures ended { S.tells → (plan : Plan) → plan_of_words (texts_of words.now.items) ≡ Some plan → Legal stage_reader plan.queue (S.log store.old) → EndsSo plan (C.last clock.old) (C.last clock.new) (S.log store.old) (S.log store.new) result O.tells (O.taken out.old) (O.taken out.new) }
+
+    // Whatever the log is, each file that a worker puts or takes away follows an own lease of its task, of a name that was due by the
+    // clock: since then exactly the inputs of the task were read, and its paths before this one were put or taken away.
+    ensures leases { S.tells → (plan : Plan) → plan_of_words (texts_of words.now.items) ≡ Some plan → FollowLeases plan (C.last clock.old) (C.last clock.new) (moments_since (S.log store.old) (S.log store.new)) }
 
     // What `err` took, where its count of faults did not rise.
     ensures told_words { E.tells → ¬ Rose (E.faults err.old) (E.faults err.new) → result ≡ 2 → E.taken err.new ≡ E.taken err.old ++ fault_line words_text }

@@ -4,6 +4,7 @@ use Rattle.ig_cli.specs.Words.{texts_of}
 use Rattle.ig_cli.proofs.Drains.{holds_exactly}
 use Rattle.ig_cli.proofs.TopCall.{not_asked, not_ready, of_other, of_worker, queue_given, stays_legal, unread_ends, unread_worked, worker_ends, worker_legal}
 use Rattle.ig_cli.proofs.WorkerFinishes.{worker_finishes}
+use Rattle.ig_cli.proofs.WorkerLeases.{unread_leases, worker_leases}
 use Rattle.ig_cli.proofs.command.igneous.Goals as goal
 
 -- ---- a worker
@@ -39,6 +40,14 @@ returns-in-Ok-Some-clause-complete_worked g c = λ tells asked asks legal can ow
     (g.met.C.Clock.bounded c.work.new.clock)
     (c.work.ensures.worked tells) asks legal can own
     (λ six. quiet (c.work.ensures.store_failed six)) (λ nine. out_quiet (c.work.ensures.out_failed nine))
+
+pub returns-in-Ok-Some-clause-leases : goal.returns-in-Ok-Some-clause-leases
+returns-in-Ok-Some-clause-leases g c = λ tells plan.
+    worker_leases (texts_of c.args.words.now.items) _ c.in-Ok-Some.plan plan _ _ _ _ _ _ _ _ _ _ _ _ _
+    (sym c.in-Ok-Some.field-0-is ∙ c.in-Ok-Some.ensures.value)
+    (subst (λ o. IfSome o HasLimits) c.in-Ok-Some.field-0-is c.in-Ok-Some.ensures.limits)
+    (g.met.C.Clock.bounded c.work.new.clock)
+    (c.work.ensures.worked tells)
 
 -- ---- no worker
 pub returns-in-Ok-None-clause-statuses : goal.returns-in-Ok-None-clause-statuses
@@ -88,6 +97,9 @@ returns-in-Err-clause-worked g c = λ tells plan asked.
 pub returns-in-Err-clause-ended : goal.returns-in-Err-clause-ended
 returns-in-Err-clause-ended g c = λ tells plan asked legal.
     unread_ends plan _ _ _ _ _ _ _ (ap g.S.Store.log (c.make_or_copy-in-Err.ensures.unread refl)) (c.make_or_copy-in-Err.ensures.unread_status refl) c.make_or_copy-in-Err.ensures.printed_nothing
+
+pub returns-in-Err-clause-leases : goal.returns-in-Err-clause-leases
+returns-in-Err-clause-leases g c = λ tells plan asked. unread_leases plan _ _ _ (ap g.S.Store.log (c.make_or_copy-in-Err.ensures.unread refl))
 
 pub returns-in-Err-clause-complete_worked : goal.returns-in-Err-clause-complete_worked
 returns-in-Err-clause-complete_worked g c = λ tells asked asks legal can own quiet out_quiet. inr (c.make_or_copy-in-Err.ensures.unread_status refl)
