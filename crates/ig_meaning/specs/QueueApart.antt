@@ -1,5 +1,5 @@
 -- What lies in a layer that is apart from a queue's directory is outside it; so does what is planned.
-use Rattle.std.specs.Prelude.{◌≡◌, ◌+◌, ℕ, suc, Bool, true, false, not, List, [], ◌∷◌, ◌++◌, length, take, Option, None, Some, Contains, Result, Ok, Err, slice_get, codes, refl}
+use Rattle.std.specs.Prelude.{◌≡◌, ◌+◌, ◌==◌, ℕ, zero, suc, Bool, true, false, not, List, [], ◌∷◌, ◌++◌, length, map, take, Option, None, Some, Contains, Result, Ok, Err, slice_get, codes, refl}
 use Rattle.std.proofs.Common.{arith, ap, sym, subst, append_assoc, true≢false, ◌∙◌}
 use Rattle.std.proofs.lemmas.Bool.{and_parts}
 use Rattle.std.proofs.lemmas.Slice.Eq.{bytes_eq-Decides}
@@ -12,12 +12,12 @@ use Rattle.ig_info.specs.Info.{InfoData}
 use Rattle.ig_info.specs.Reading.{info_in}
 use Rattle.ig_record.specs.declared.stage.InfoFile.{InfoFile}
 use Rattle.ig_record.specs.declared.stage.Kind.{Kind}
-use Rattle.ig_record.specs.declared.stage.Kind.TheVariants.{Xfer, Count}
+use Rattle.ig_record.specs.declared.stage.Kind.TheVariants.{Xfer, Downsample, Count}
 use Rattle.ig_record.specs.declared.stage.Stage.{Stage}
-use Rattle.ig_record.specs.Columns.{output_dirs}
+use Rattle.ig_record.specs.Columns.{dirs_of_all, output_dirs}
 use Rattle.ig_record.specs.Sound.{counts_name}
 use Rattle.ig_rule.specs.Dirs.{IsOutside}
-use Rattle.ig_meaning.specs.Plan.{copy_stage, new_scale, pass_stage, planned, planned_by, with_dest, with_info, with_scale}
+use Rattle.ig_meaning.specs.Plan.{all_added, copy_stage, mips_if, mips_of, mips_stage, new_scale, pass_stage, place_in, planned, planned_by, with_dest, with_info, with_mips, with_scale}
 use Rattle.ig_meaning.specs.QueueWords.{holds, is_apart}
 use Rattle.ig_meaning.specs.Refusal.{Refusal}
 use Rattle.ig_meaning.specs.TakenLaws.{the_only}
@@ -115,6 +115,31 @@ dest-placed : (request : Request) → writes_layer request.kind ≡ true → (sc
 dest-placed request writes scale new (Ok info) s e = subst (IsPlaced request) (ok_is (copy_stage request scale new info) s e) (copy-placed request writes scale new info)
 dest-placed request writes scale new (Err cause) s e = absurd (cc)
 
+-- the directories of scales of the source
+record IsScaleOf (layer dir : List ℕ) : Type 0 where
+  key : List ℕ
+  is : dir ≡ joined layer key
+
+scale-dirs : (layer dir : List ℕ) (scales : List Scale) → Contains (dirs_of_all (map (place_in layer) scales)) dir → IsScaleOf layer dir
+scale-dirs layer dir [] (k, few, is) = absurd (omega (arith, few))
+scale-dirs layer dir (scale ∷ scales) (zero, few, is) = record { key = scale.key; is = sym is }
+scale-dirs layer dir (scale ∷ scales) (suc k, few, is) = scale-dirs layer dir scales (k, omega (arith, few), is)
+
+mips-placed : (request : Request) (scale : Scale) (info : InfoData) → IsPlaced request (mips_stage request scale info)
+mips-placed request scale members = record {
+  source = in_source scale.key refl;
+  outputs = λ dir among. let own = scale-dirs request.source dir (mips_of request.levels scale) among in in_source own.key own.is;
+  info = λ info is. in_source (codes "info") (ap (λ (i : InfoFile). i.path) (sym (the_info info _ is)));
+}
+
+added-placed : (request : Request) (scale : Scale) (r : Result InfoData InfoError) (s : Stage) → with_mips request scale r ≡ Ok s → IsPlaced request s
+added-placed request scale (Ok info) s e = subst (IsPlaced request) (ok_is (mips_stage request scale info) s e) (mips-placed request scale info)
+added-placed request scale (Err cause) s e = absurd (cc)
+
+last-placed : (last : Bool) (request : Request) (info : InfoData) (scale : Scale) (s : Stage) → mips_if last request info scale ≡ Ok s → IsPlaced request s
+last-placed true request info scale s e = added-placed request scale (all_added info (mips_of request.levels scale)) s e
+last-placed false request info scale s e = absurd (cc)
+
 -- a directory of a pass
 joined-twice : (layer name key sub : List ℕ) → joined (joined (joined layer name) key) sub ≡ joined layer (joined (joined name key) sub)
 joined-twice layer name key sub =
@@ -129,13 +154,14 @@ count-placed request scale = record {
   info = λ info is. absurd (cc);
 }
 
-placed-by : (kind : Kind) (earlier : List Stage) (request : Request) (scale : Scale) (s : Stage) → request.kind ≡ kind → planned_by kind earlier request scale ≡ Ok s → IsPlaced request s
-placed-by Xfer earlier request scale s is e = dest-placed request (ap writes_layer is) scale (new_scale request scale) (dest_of (new_scale request scale)) s e
-placed-by Count earlier request scale s is e = subst (IsPlaced request) (ok_is (pass_stage Count counts_name request scale) s e) (count-placed request scale)
-placed-by kind earlier request scale s is e = absurd (cc)
+placed-by : (kind : Kind) (earlier : List Stage) (request : Request) (info : InfoData) (scale : Scale) (s : Stage) → request.kind ≡ kind → planned_by kind earlier request info scale ≡ Ok s → IsPlaced request s
+placed-by Xfer earlier request info scale s is e = dest-placed request (ap writes_layer is) scale (new_scale request scale) (dest_of (new_scale request scale)) s e
+placed-by Downsample earlier request info scale s is e = last-placed (suc request.mip == length info.scales) request info scale s e
+placed-by Count earlier request info scale s is e = subst (IsPlaced request) (ok_is (pass_stage Count counts_name request scale) s e) (count-placed request scale)
+placed-by kind earlier request info scale s is e = absurd (cc)
 
 from_scale : (earlier : List Stage) (request : Request) (info : InfoData) (found : Option Scale) (s : Stage) → with_scale earlier request info found ≡ Ok s → IsPlaced request s
-from_scale earlier request info (Some scale) s e = placed-by request.kind earlier request scale s refl e
+from_scale earlier request info (Some scale) s e = placed-by request.kind earlier request info scale s refl e
 from_scale earlier request info None s e = absurd (cc)
 
 from_info : (earlier : List Stage) (request : Request) (r : Result InfoData InfoError) (s : Stage) → with_info earlier request r ≡ Ok s → IsPlaced request s

@@ -82,7 +82,7 @@ aligned-high lo hi step shape a i whole part =
 
 -- ---- three axes
 -- a space cut by steps of whole chunks
-cell-aligned : (space : Box3) (step shape i : Point) → IsWhole step shape → IsGrid (record { space = space; step = step })
+pub cell-aligned : (space : Box3) (step shape i : Point) → IsWhole step shape → IsGrid (record { space = space; step = step })
     → IsWithin (cell_of (record { space = space; step = shape }) i) space
     → (hull (record { space = space; step = step }) (cell_of (record { space = space; step = shape }) i)).space ≡ cell_of (record { space = space; step = shape }) i
 cell-aligned space step shape i whole grid within =

@@ -1,19 +1,23 @@
 -- What is wanted of a stage, defined from the whole volume of its source: this project's own.
-use Rattle.std.specs.Prelude.{ℕ, Bool, if◌then◌else◌, List, [], ◌∷◌, ◌++◌, codes, Option, None, Some, is_some, option_and_then, option_map}
+use Rattle.std.specs.Prelude.{ℕ, suc, ◌-◌, Bool, if◌then◌else◌, List, [], ◌∷◌, ◌++◌, codes, Option, None, Some, is_some, option_and_then, option_map, slice_get}
 use Rattle.std.specs.Str.{bytes_eq}
 use Rattle.ig_space.specs.declared.point.Box3.{Box3}
+use Rattle.ig_space.specs.declared.geometry.Geometry.{Geometry}
 use Rattle.ig_space.specs.declared.place.Place.{Place}
 use Rattle.ig_space.specs.Chunk.{chunk_path}
 use Rattle.ig_space.specs.Chunks.{listed}
-use Rattle.ig_space.specs.Grid.{cell, cell_count, chunks_of, size_of}
+use Rattle.ig_space.specs.Grid.{cell, cell_count, chunks_of, is_in, size_of, space_of}
+use Rattle.ig_space.specs.Volume.{place_of}
 use Rattle.ig_layer.specs.Faults.{first_of, or_else}
 use Rattle.ig_layer.specs.Layer.{Labels, Reading, volume_at}
-use Rattle.ig_layer.specs.Texts.{labels_in, text_of}
+use Rattle.ig_layer.specs.Texts.{chunk_text, labels_in, text_of}
+use Rattle.ig_mode.specs.HalvedGrids.{long_grid}
+use Rattle.ig_mode.specs.Known.{scale_mips}
 use Rattle.ig_count.specs.CountsFile.{counts_text}
 use Rattle.ig_count.specs.Tables.{counts_of}
 use Rattle.ig_cutout.specs.declared.types.Output.{Output}
 use Rattle.ig_record.specs.declared.stage.Kind.{Kind}
-use Rattle.ig_record.specs.declared.stage.Kind.TheVariants.{Xfer, Count}
+use Rattle.ig_record.specs.declared.stage.Kind.TheVariants.{Xfer, Downsample, Count}
 use Rattle.ig_record.specs.declared.stage.Stage.{Stage}
 use Rattle.ig_record.specs.Columns.{paths_of}
 use Rattle.ig_record.specs.Stage.{cells, task_count}
@@ -47,6 +51,29 @@ abbrev pub chunk_among : List Place → List ℕ → Option Want
 chunk_among [] path = None
 chunk_among (place ∷ places) path = or_else (option_map (chunk_want place) (chunk_with place path)) (chunk_among places path)
 
+-- the labels of a box, in order, and none elsewhere
+abbrev pub placed : Box3 → List ℕ → Labels
+placed box labels x y z = if is_in box x y z then slice_get labels (place_of (size_of box) (x - box.lo.x) (y - box.lo.y) (z - box.lo.z)) else None
+
+-- the box of the source whose blocks are the voxels of chunk i of this scale, which is the source halved m times
+abbrev pub mip_box : Geometry → ℕ → Place → ℕ → Box3
+mip_box source m place i = cell (long_grid m (space_of source) place.geometry.chunk) i
+
+-- that chunk of the mip, taken m times of the source
+abbrev pub mip_want : Geometry → ℕ → Place → ℕ → Want
+mip_want source m place i = record {
+  box = mip_box source m place i;
+  text = λ labels. chunk_text place.geometry (scale_mips m (space_of source) (placed (mip_box source m place i) labels)) (cell (chunks_of place.geometry) i);
+}
+
+abbrev pub mip_if : Geometry → ℕ → Place → List ℕ → ℕ → Option Want
+mip_if source m place path i = if bytes_eq (chunk_path place.dir (cell (chunks_of place.geometry) i)) path then Some (mip_want source m place i) else None
+
+-- the chunk with this path, of the first of these scales that has one; the first of them is the source halved m times, and each other the one before it halved
+abbrev pub mip_among : Geometry → ℕ → List Place → List ℕ → Option Want
+mip_among source m [] path = None
+mip_among source m (place ∷ places) path = or_else (first_of (mip_if source m place path) (cell_count (chunks_of place.geometry))) (mip_among source (suc m) places path)
+
 -- the file of the counts of a cell: how many voxels of it have each label
 abbrev pub count_want : Stage → ℕ → Want
 count_want s t = record { box = cell (cells s) t; text = λ labels. Some (counts_text (counts_of labels)) }
@@ -54,6 +81,7 @@ count_want s t = record { box = cell (cells s) t; text = λ labels. Some (counts
 -- what is wanted at a path; nothing of a removal, and of the kinds that are not listed
 abbrev pub wants_by : Kind → Stage → List ℕ → Option Want
 wants_by Xfer s path = chunk_among s.dests path
+wants_by Downsample s path = mip_among s.source.geometry 1 s.dests path
 wants_by Count s path = option_map (count_want s) (number_with s.scratch (codes "parts") (codes ".counts") (cell_count (cells s)) path)
 wants_by kind s path = None
 

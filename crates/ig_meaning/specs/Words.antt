@@ -4,7 +4,7 @@ use Rattle.std.specs.List.{list_all}
 use Rattle.std.specs.Str.{bytes_eq}
 use Rattle.ig_space.specs.declared.point.Point.{Point}
 use Rattle.ig_record.specs.declared.stage.Kind.{Kind}
-use Rattle.ig_record.specs.declared.stage.Kind.TheVariants.{Xfer, Relabel, Count}
+use Rattle.ig_record.specs.declared.stage.Kind.TheVariants.{Xfer, Downsample, Relabel, Count}
 use Rattle.ig_meaning.specs.Options.{Parts, is_short_path, number_in, parts_of, sides_of, value_or, values_of}
 use Rattle.ig_meaning.specs.QueueWords.{is_apart, queue_given}
 
@@ -48,12 +48,15 @@ abbrev pub is_option : Kind → List ℕ → Bool
 is_option Xfer name =
     bytes_eq name (codes "--mip") || (bytes_eq name (codes "--chunk-size") || (bytes_eq name (codes "--shape")
     || (bytes_eq name (codes "--encoding") || (bytes_eq name (codes "--block-size") || bytes_eq name (codes "--queue")))))
+is_option Downsample name =
+    bytes_eq name (codes "--mip") || (bytes_eq name (codes "--num-mips") || (bytes_eq name (codes "--shape") || bytes_eq name (codes "--queue")))
 is_option Count name = bytes_eq name (codes "--mip") || (bytes_eq name (codes "--shape") || bytes_eq name (codes "--queue"))
 is_option kind name = false
 
 -- whether it may run the stage itself
 abbrev pub runs_alone : Kind → Bool
 runs_alone Xfer = true
+runs_alone Downsample = true
 runs_alone kind = false
 
 -- ---- its words
@@ -72,14 +75,20 @@ coding_of text = if bytes_eq text (codes "raw") then Some Plain else if bytes_eq
 abbrev pub coding_given : List (List ℕ) → Option (Option Coding)
 coding_given values = value_or None (λ text. option_map Some (coding_of text)) values
 
+-- how many mips the option asks for: one to five, and without it one; of a kind that adds none, none
+abbrev pub levels_given : Kind → List (List ℕ) → Option ℕ
+levels_given Downsample values = value_or 1 (number_in 1 5) values
+levels_given kind values = Some 0
+
 unfoldable pub request_of : Kind → List (List ℕ × List ℕ) → List ℕ → Option (List ℕ) → Option Request
 request_of kind options source dest =
-    option_and_then (λ mip. option_and_then (λ chunk. option_and_then (λ shape. option_and_then (λ encoding. option_map
-    (λ block. record { kind = kind; source = source; dest = dest; mip = mip; levels = 0; chunk = chunk; shape = shape; encoding = encoding; block = block })
+    option_and_then (λ mip. option_and_then (λ levels. option_and_then (λ chunk. option_and_then (λ shape. option_and_then (λ encoding. option_map
+    (λ block. record { kind = kind; source = source; dest = dest; mip = mip; levels = levels; chunk = chunk; shape = shape; encoding = encoding; block = block })
     (sides_given (values_of (codes "--block-size") options)))
     (coding_given (values_of (codes "--encoding") options)))
     (sides_given (values_of (codes "--shape") options)))
     (sides_given (values_of (codes "--chunk-size") options)))
+    (levels_given kind (values_of (codes "--num-mips") options)))
     (value_or 0 (number_in 0 99) (values_of (codes "--mip") options))
 
 -- SRC DEST, where a new layer is written, and else SRC
@@ -121,7 +130,11 @@ voxels_command (first ∷ words) = if bytes_eq first (codes "count") then comman
 -- the words after `image`
 abbrev pub image_command : List (List ℕ) → Option Command
 image_command [] = None
-image_command (first ∷ words) = if bytes_eq first (codes "xfer") then command_as Xfer words else if bytes_eq first (codes "voxels") then voxels_command words else None
+image_command (first ∷ words) =
+    if bytes_eq first (codes "xfer") then command_as Xfer words
+    else if bytes_eq first (codes "downsample") then command_as Downsample words
+    else if bytes_eq first (codes "voxels") then voxels_command words
+    else None
 
 -- the command of these words, if they are one's
 abbrev pub command_of : List (List ℕ) → Option Command

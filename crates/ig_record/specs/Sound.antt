@@ -145,7 +145,7 @@ has_members Remove layer key s = is_none s.scratch && is_nothing s.dests s.info
 -- the kinds whose stages can be made and run; of the others no stage is sound
 abbrev pub has_come : Kind → Bool
 has_come Xfer = true
-has_come Downsample = false
+has_come Downsample = true
 has_come Faces = false
 has_come Links = false
 has_come Labels = false

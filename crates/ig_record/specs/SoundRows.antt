@@ -200,6 +200,7 @@ row_of s layer key fits l k (of_remove is none r) = row-empty s fits r (chunk-un
 -- A sound stage is of one of these. Each kind that comes adds its line here, and so owes what is proved by these cases above.
 pub data IsSoundKind (s : Stage) : Type 0 where
   is_xfer : s.kind ≡ Xfer → s.scratch ≡ None → IsCopyOf s.source s.dests s.info → IsSoundKind s
+  is_downsample : s.kind ≡ Downsample → s.scratch ≡ None → (layer : List ℕ) → HasMips layer s.source s.dests s.info → IsSoundKind s
   is_count : s.kind ≡ Count → (scratch : List ℕ) → s.scratch ≡ Some scratch → IsRemoval s.dests s.info → IsSoundKind s
   is_remove : s.kind ≡ Remove → s.scratch ≡ None → IsRemoval s.dests s.info → IsSoundKind s
 
@@ -208,8 +209,8 @@ not-come s kind is come = subst (λ (kind : Kind). has_come kind ≡ true) is co
 
 pub come-kind : (s : Stage) (layer key : List ℕ) → has_come s.kind ≡ true → IsOfKind s layer key → IsSoundKind s
 come-kind s layer key come (of_xfer is none c) = is_xfer is none c
+come-kind s layer key come (of_downsample is none h) = is_downsample is none layer h
 come-kind s layer key come (of_remove is none r) = is_remove is none r
-come-kind s layer key come (of_downsample is none h) = absurd (true≢false (sym (not-come s Downsample is come)))
 come-kind s layer key come (of_faces is at r) = absurd (true≢false (sym (not-come s Faces is come)))
 come-kind s layer key come (of_links is at r) = absurd (true≢false (sym (not-come s Links is come)))
 come-kind s layer key come (of_labels is at r) = absurd (true≢false (sym (not-come s Labels is come)))

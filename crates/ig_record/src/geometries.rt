@@ -52,7 +52,7 @@ pub(crate) fn is_relabelled(a: &Geometry, b: &Geometry) -> bool
 }
 
 /// The geometry of the mip: half as many voxels along x and y, rounded up, in chunks of the same size.
-pub(crate) fn halved(g: &Geometry) -> Geometry
+pub fn halved(g: &Geometry) -> Geometry
     ensures { result ≡ halved_geometry 1 g.now }
 {
     let (offset, size) = (g.offset, g.size);

@@ -152,8 +152,7 @@ pub(crate) fn has_come(kind: Kind) -> bool
     ensures { result ≡ has_come kind }
 {
     match kind {
-        Kind::Xfer | Kind::Count | Kind::Remove => true,
-        Kind::Downsample | Kind::Faces | Kind::Links | Kind::Labels => false,
-        Kind::Relabel | Kind::Sum => false,
+        Kind::Xfer | Kind::Downsample | Kind::Count | Kind::Remove => true,
+        Kind::Faces | Kind::Links | Kind::Labels | Kind::Relabel | Kind::Sum => false,
     }
 }

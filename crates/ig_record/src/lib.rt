@@ -23,7 +23,8 @@ mod writing;
 
 pub use error::RecordError;
 pub use filed::read_task;
-pub use lists::{dirs, inputs, paths, removed, writes_in};
+pub use geometries::halved;
+pub use lists::{box_written, dirs, inputs, paths, removed, writes_in};
 pub use recorded::read_stage;
 pub use soundness::{MOST_TASKS, MOST_VOXELS};
 pub use stage::{InfoFile, Kind, Places, Stage};

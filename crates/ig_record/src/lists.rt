@@ -178,7 +178,7 @@ fn halved_box(mips: u32, scale: &Geometry, area: Box3) -> Box3
 }
 
 /// The box that a task has in the scale of this number, from 1 on, of those that the stage writes.
-fn box_written(stage: &Stage, task: u32, number: u32) -> Box3
+pub fn box_written(stage: &Stage, task: u32, number: u32) -> Box3
     requires sound { is_sound stage.now ≡ true }
     requires below { task < task_count stage.now }
     ensures { result ≡ box_written_by stage.now.kind stage.now task number }
