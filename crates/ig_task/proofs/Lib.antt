@@ -1,2 +1,4 @@
+mod CutChunks
 mod TaskRuns
+mod MipRuns
 mod WantedOutputs

@@ -1,32 +1,27 @@
 -- What a task makes of what was found of its inputs.
-use Rattle.std.proofs.Common.{arith, ◌≡◌, ◌<◌, ◌≤◌, ◌+◌, ℕ, zero, suc, true, false, if◌then◌else◌, List, [], ◌∷◌, ◌++◌, Option, None, Some, is_none, get_or, IfOk, Result, Ok, Err, option_map, option_and_then, map, refl, sym, ap, subst, true≢false, ◌∙◌}
-use Rattle.std.proofs.lemmas.Option.{none-some, same_Some}
+use Rattle.std.proofs.Common.{arith, ◌≡◌, ◌<◌, ◌+◌, ℕ, suc, true, false, if◌then◌else◌, List, [], ◌∷◌, Option, None, Some, is_none, get_or, IfOk, Result, Ok, Err, option_map, option_and_then, map, refl, sym, ap, subst, true≢false, ◌∙◌}
 use Rattle.ig_space.specs.declared.point.Box3.{Box3}
 use Rattle.ig_space.specs.declared.place.Place.{Place}
 use Rattle.ig_space.specs.Cells.{IsIn-is_in, point_at-place}
-use Rattle.ig_space.specs.Chunk.{chunk_path}
-use Rattle.ig_space.specs.Chunks.{chunk_in, listed}
+use Rattle.ig_space.specs.Chunks.{chunk_in}
 use Rattle.ig_space.specs.Geometry.{count}
-use Rattle.ig_space.specs.Grid.{cell, cell_count, chunks_of, hull, point_at, size_of, space_of}
+use Rattle.ig_space.specs.Grid.{cell, point_at, size_of, space_of}
 use Rattle.ig_count.specs.CountsFile.{counts_text}
 use Rattle.ig_count.specs.Tables.{counts_of}
-use Rattle.ig_defs.specs.Own.{File}
 use Rattle.ig_layer.specs.AllListed.{all_listed-agrees}
 use Rattle.ig_layer.specs.Faults.{Fault, first_fault, or_else}
 use Rattle.ig_layer.specs.Layer.{Labels, Reading, volume_at}
-use Rattle.ig_layer.specs.Texts.{all_listed, chunk_file, chunk_text, file_if, files_in, label_by_number, labels_in, text_of, with_last}
+use Rattle.ig_layer.specs.Texts.{files_in, label_by_number, labels_in, text_of}
 use Rattle.ig_record.specs.declared.stage.Kind.{Kind}
 use Rattle.ig_record.specs.declared.stage.Kind.TheVariants.{Xfer, Count, Remove}
 use Rattle.ig_record.specs.declared.stage.Stage.{Stage}
 use Rattle.ig_record.specs.Sound.{has_come, is_sound}
-use Rattle.ig_record.specs.SoundKinds.{IsCopyOf}
 use Rattle.ig_record.specs.SoundStages.{IsSound-from, sound-come}
 use Rattle.ig_record.specs.Columns.{box_read, inputs_of, numbered, paths_of as owned_paths}
 use Rattle.ig_record.specs.Stage.{cells, task_box, task_count, task_size}
 use Rattle.ig_meaning.specs.ChunkPlaces.{chunk_with-is}
 use Rattle.ig_meaning.specs.Refusal as refusal
 use Rattle.ig_meaning.specs.Refusal.{Refusal, refusal_of}
-use Rattle.ig_meaning.specs.Sequential.{outputs_at-append}
 use Rattle.ig_meaning.specs.Task.{absent_in, first_absent, first_damaged, labels_given, labels_within, makes_by, refusal_by, task_outputs, task_refusal, texts_given, unless}
 use Rattle.ig_meaning.specs.Wants.{chunk_want, count_want, output_by, outputs_at, put_at, removal_of, text_by, wants_by, with_first}
 use Rattle.ig_cutout.specs.declared.types.Input.{Input}
@@ -41,8 +36,9 @@ use Rattle.ig_task.specs.Counts.{count-numbered, count-of}
 use Rattle.ig_task.specs.KindFacts.{MakesFiles}
 use Rattle.ig_task.specs.NumberedStages.{IsNumbered, numbered-made}
 use Rattle.ig_task.specs.OwnWants.{copy-wants, removal-wants}
-use Rattle.ig_task.specs.OwnedPaths.{Owns, copy-owns}
+use Rattle.ig_task.specs.OwnedPaths.{copy-owns}
 use Rattle.ig_task.specs.Tiles.{part-chunk}
+use Rattle.ig_task.proofs.CutChunks.{AreWantedOf, chunk_cut, cut_outputs}
 
 -- ---- a sound stage
 -- a copy to this scale
@@ -129,77 +125,27 @@ files-makes s m k files inputs labels outputs holds paths found fine are made =
     ap (λ r. unless r (makes_by s.kind s k (labels_given s k files) (texts_given s k files))) (files-fault s m k files inputs holds paths found ∙ ap (option_map refusal_of) fine) ∙ outs
 
 -- ---- copies
--- the chunks that are cut are what is wanted of the labels
 text_then : (place : Place) (box : Box3) (o : Option (List ℕ)) → option_and_then (chunk_want place box).text o ≡ text_of place.geometry.encoding place.geometry.width (size_of box) o
 text_then place box None = refl
 text_then place box (Some labels) = refl
 
-file_then : (path : List ℕ) (text : Option (List ℕ)) (file : File) → file_if path text ≡ Some file → option_map (put_at path) text ≡ Some (output_of file)
-file_then path None file e = absurd (none-some file e)
-file_then path (Some text) file e = ap (λ f. Some (output_of f)) (same_Some _ file e)
+-- the chunks of the new scale are wanted of the volume itself
+copy-wanted : (s : Stage) (sound : is_sound s ≡ true) (copies : s.kind ≡ Xfer) (k : ℕ) → k < task_count s → (volume : Labels) → AreWantedOf s (copy-of s sound copies).dest (task_box s k) volume volume
+copy-wanted s sound copies k below volume i few bytes e =
+    let copy = copy-of s sound copies in
+    let box = chunk_cut copy.dest (task_box s k) i in
+    let path = chunk_in copy.dest (task_box s k) i in
+    let owns = copy-owns s (IsSound-from s sound) copies copy in
+    let there = chunk_with-is copy.dest copy.is_dest.fits path box (part-chunk copy.dest _ owns.tiled k below i few) in
+    let want : wants_by s.kind s path ≡ Some (chunk_want copy.dest box) = copy-wants s copies copy path ∙ ap (option_map (chunk_want copy.dest)) there in
+    ap (text_by volume) want ∙ text_then copy.dest box (labels_in volume box) ∙ e
 
-module _ (s : Stage) (sound : is_sound s ≡ true) (copies : s.kind ≡ Xfer) (k : ℕ) (below : k < task_count s) (labels : Labels) where
-  abbrev copy : IsCopyOf s.source s.dests s.info
-  copy = copy-of s sound copies
-
-  owns : Owns s copy.dest
-  owns = copy-owns s (IsSound-from s sound) copies copy
-
-  abbrev parts : ℕ → Box3
-  parts i = cell (hull (chunks_of copy.dest.geometry) (task_box s k)) i
-
-  -- one chunk
-  one_chunk : (i : ℕ) → i < cell_count (hull (chunks_of copy.dest.geometry) (task_box s k)) → (file : File) → chunk_file copy.dest labels (parts i) ≡ Some file
-      → outputs_at s labels (chunk_in copy.dest (task_box s k) i ∷ []) ≡ Some (output_of file ∷ [])
-  one_chunk i few file e =
-      let path = chunk_path copy.dest.dir (parts i) in
-      let chunk = part-chunk copy.dest _ owns.tiled k below i few in
-      let there = chunk_with-is copy.dest copy.is_dest.fits path (parts i) chunk in
-      let want : wants_by s.kind s path ≡ Some (chunk_want copy.dest (parts i)) = copy-wants s copies copy path ∙ ap (option_map (chunk_want copy.dest)) there in
-      let text = text_then copy.dest (parts i) (labels_in labels (parts i)) in
-      ap (λ w. with_first (output_by labels path w) (Some [])) want
-      ∙ ap (λ t. with_first (option_map (put_at path) t) (Some [])) text
-      ∙ ap (λ o. with_first o (Some [])) (file_then path (chunk_text copy.dest.geometry labels (parts i)) file e)
-
-  record IsLast (front : Option (List File)) (last : Option File) (all : List File) : Type 0 where
-    first : List File
-    file : File
-    front_is : front ≡ Some first
-    last_is : last ≡ Some file
-    are : first ++ file ∷ [] ≡ all
-
-  last-from : (front : Option (List File)) (last : Option File) (all : List File) → with_last front last ≡ Some all → IsLast front last all
-  last-from None last all e = absurd (none-some all e)
-  last-from (Some first) None all e = absurd (none-some all e)
-  last-from (Some first) (Some file) all e = record { first = first; file = file; front_is = refl; last_is = refl; are = same_Some _ all e }
-
-  mapped-last : (first : List File) (file : File) → map output_of (first ++ file ∷ []) ≡ map output_of first ++ output_of file ∷ []
-  mapped-last [] file = refl
-  mapped-last (f ∷ first) file = ap (λ rest. output_of f ∷ rest) (mapped-last first file)
-
-  cut_chunks : (n : ℕ) → n ≤ cell_count (hull (chunks_of copy.dest.geometry) (task_box s k)) → (files : List File) → all_listed (λ i. chunk_file copy.dest labels (parts i)) n ≡ Some files
-      → outputs_at s labels (listed (chunk_in copy.dest (task_box s k)) n) ≡ Some (map output_of files)
-  cut_chunks zero few files e = ap (λ fs. Some (map output_of fs)) (same_Some [] files e)
-  cut_chunks (suc n) few files e =
-      let l = last-from (all_listed (λ i. chunk_file copy.dest labels (parts i)) n) (chunk_file copy.dest labels (parts n)) files e in
-      outputs_at-append s labels (listed (chunk_in copy.dest (task_box s k)) n) (chunk_in copy.dest (task_box s k) n ∷ []) (map output_of l.first) (output_of l.file ∷ [])
-      (cut_chunks n (omega (arith, few)) l.first l.front_is) (one_chunk n few l.file l.last_is)
-      ∙ ap Some (sym (mapped-last l.first l.file) ∙ ap (map output_of) l.are)
-
-  mapped_some : (o : Option (List File)) (outputs : List Output) → option_map (map output_of) o ≡ Some outputs → (files : List File) × (o ≡ Some files) × (map output_of files ≡ outputs)
-  mapped_some None outputs e = absurd (none-some outputs e)
-  mapped_some (Some files) outputs e = (files, refl, same_Some (map output_of files) outputs e)
-
-  pub cut_outputs : (outputs : List Output) → option_map (map output_of) (files_in copy.dest labels (task_box s k)) ≡ Some outputs → outputs_at s labels (owned_paths s k) ≡ Some outputs
-  cut_outputs outputs e =
-      let m = mapped_some (files_in copy.dest labels (task_box s k)) outputs e in
-      ap (outputs_at s labels) (owns.paths k) ∙ cut_chunks (cell_count (hull (chunks_of copy.dest.geometry) (task_box s k))) (omega arith) m.0 m.1 ∙ ap Some m.2
-
--- to the scale that the copy writes
 pub copy-made : (s : Stage) → is_sound s ≡ true → s.kind ≡ Xfer → (k : ℕ) → k < task_count s → (dest : Place) → s.dests ≡ dest ∷ [] → (volume : Labels) (outputs : List Output)
     → option_map (map output_of) (files_in dest volume (task_box s k)) ≡ Some outputs → outputs_at s volume (owned_paths s k) ≡ Some outputs
 copy-made s sound copies k below dest one volume outputs cut =
-    cut_outputs s sound copies k below volume outputs
+    let copy = copy-of s sound copies in
+    ap (outputs_at s volume) ((copy-owns s (IsSound-from s sound) copies copy).paths k)
+    ∙ cut_outputs s copy.dest (task_box s k) volume volume (copy-wanted s sound copies k below volume) outputs
     (subst (λ d. option_map (map output_of) (files_in d volume (task_box s k)) ≡ Some outputs) (sym (dest_of s sound copies dest one)) cut)
 
 -- ---- counts

@@ -1,9 +1,11 @@
 -- What the answers of a run say.
-use Rattle.std.specs.Prelude.{◌≡◌, if◌then◌else◌, List, [], ◌∷◌, ℕ, Option, None, Some, is_none}
+use Rattle.std.specs.Prelude.{◌≡◌, ◌+◌, if◌then◌else◌, List, [], ◌∷◌, ℕ, Option, None, Some, is_none, slice_get}
+use Rattle.ig_space.specs.declared.place.Place.{Place}
+use Rattle.ig_space.specs.Chunks.{chunks_in}
 use Rattle.ig_layer.specs.Layer.{Labels}
 use Rattle.ig_layer.specs.Texts.{labels_in}
 use Rattle.ig_record.specs.declared.stage.Stage.{Stage}
-use Rattle.ig_record.specs.Columns.{paths_of}
+use Rattle.ig_record.specs.Columns.{box_written, paths_of}
 use Rattle.ig_record.specs.Stage.{task_box}
 use Rattle.ig_meaning.specs.Refusal as meaning
 use Rattle.ig_meaning.specs.Refusal.{Refusal}
@@ -37,3 +39,9 @@ RefusesTask Memory r = Unit {0}
 -- Of each volume whose labels in the box of the task are these, the outputs are what is to stand at the task's paths.
 abbrev pub AreMadeOf : Stage → ℕ → List ℕ → List Output → Type 0
 AreMadeOf s k labels outputs = (volume : Labels) → labels_in volume (task_box s k) ≡ Some labels → outputs_at s volume (paths_of s k) ≡ Some outputs
+
+-- Of each such volume they are what is to stand at the task's chunks of the scale at this place, from 0 on.
+abbrev pub AreOfMip : Stage → ℕ → ℕ → List ℕ → List Output → Type 0
+AreOfMip s k m labels outputs =
+    (place : Place) → slice_get s.dests m ≡ Some place → (volume : Labels) → labels_in volume (task_box s k) ≡ Some labels
+    → outputs_at s volume (chunks_in place (box_written s.kind s k (m + 1))) ≡ Some outputs

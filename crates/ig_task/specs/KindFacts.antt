@@ -6,11 +6,11 @@ use Rattle.ig_space.specs.Chunks.{chunks_in}
 use Rattle.ig_defs.specs.Own.{File}
 use Rattle.ig_layer.specs.Layer.{Reading}
 use Rattle.ig_record.specs.declared.stage.Kind.{Kind}
-use Rattle.ig_record.specs.declared.stage.Kind.TheVariants.{Xfer, Count, Remove}
+use Rattle.ig_record.specs.declared.stage.Kind.TheVariants.{Xfer, Downsample, Count, Remove}
 use Rattle.ig_record.specs.declared.stage.Stage.{Stage}
 use Rattle.ig_record.specs.Columns.{box_read, chunks_met, inputs_of, output_dirs, paths_of, removed_dir, scratch_read}
-use Rattle.ig_record.specs.SoundKinds.{IsCopyOf, IsRemoval}
-use Rattle.ig_record.specs.SoundRows.{IsSoundKind, is_count, is_remove, is_xfer}
+use Rattle.ig_record.specs.SoundKinds.{HasMips, IsCopyOf, IsRemoval}
+use Rattle.ig_record.specs.SoundRows.{IsSoundKind, is_count, is_downsample, is_remove, is_xfer}
 use Rattle.ig_record.specs.Stage.{task_box, task_count, task_size}
 use Rattle.ig_meaning.specs.Jobs.{file_of}
 use Rattle.ig_meaning.specs.Wants.{wanted_text, wants_by}
@@ -24,15 +24,22 @@ pub record IsCount (s : Stage) : Type 0 where
   pub at : s.scratch ≡ Some scratch
   pub alone : IsRemoval s.dests s.info
 
+-- a stage of mips has scales of one layer, which are the source halved, and the info of that layer
+pub record IsDownsample (s : Stage) : Type 0 where
+  pub layer : List ℕ
+  pub mips : HasMips layer s.source s.dests s.info
+
 -- what a sound stage of each kind has; of the kinds that are not listed none is sound
 abbrev pub IsOf : Kind → Stage → Type 0
 IsOf Xfer s = IsCopyOf s.source s.dests s.info
+IsOf Downsample s = IsDownsample s
 IsOf Count s = IsCount s
 IsOf Remove s = IsRemoval s.dests s.info
 IsOf kind s = Unit {0}
 
 pub is-of : (s : Stage) → IsSoundKind s → IsOf s.kind s
 is-of s (is_xfer is none c) = subst (λ (kind : Kind). IsOf kind s) (sym is) c
+is-of s (is_downsample is none layer h) = subst (λ (kind : Kind). IsOf kind s) (sym is) (record { layer = layer; mips = h })
 is-of s (is_count is scratch at r) = subst (λ (kind : Kind). IsOf kind s) (sym is) (record { scratch = scratch; at = at; alone = r })
 is-of s (is_remove is none r) = subst (λ (kind : Kind). IsOf kind s) (sym is) r
 

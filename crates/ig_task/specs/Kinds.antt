@@ -11,13 +11,14 @@ use Rattle.ig_record.specs.ReadingLaws.{record_in-IsRecord}
 use Rattle.ig_record.specs.Sound.{is_sound}
 use Rattle.ig_record.specs.SoundStages.{IsSound, IsSound-from, sound-kind}
 use Rattle.ig_record.specs.SoundKinds.{IsRemoval}
-use Rattle.ig_record.specs.SoundRows.{IsSoundKind, is_count, is_remove, is_xfer}
+use Rattle.ig_record.specs.SoundRows.{IsSoundKind, is_count, is_downsample, is_remove, is_xfer}
 use Rattle.ig_meaning.specs.ChunkPlaces.{chunk-lies, chunk-not_info, is_chunk_of-from, is_chunk_of-is}
 use Rattle.ig_meaning.specs.Jobs.{file_of}
 use Rattle.ig_meaning.specs.Lasting.{wanted-lasts}
 use Rattle.ig_rule.specs.Facts.{Facts, IsInfoName, KindLaws, Pass, StageLaws}
 use Rattle.ig_task.specs.Copies.{copy-makes_files}
 use Rattle.ig_task.specs.Counts.{count-makes_files}
+use Rattle.ig_task.specs.Downsamples.{mips-make_files}
 use Rattle.ig_task.specs.Facts.{facts_of, stage_reader}
 use Rattle.ig_task.specs.KindFacts.{KindFacts, MakesFiles, makes_files, path-of, removes}
 use Rattle.ig_task.specs.OwnedPaths.{one-task, path-chunk, removal-owns, removal-removes}
@@ -26,6 +27,7 @@ use Rattle.ig_task.specs.OwnWants.{removal-wants_none}
 -- ---- kind by kind
 facts_by : (s : Stage) → IsSound s → IsSoundKind s → KindFacts s
 facts_by s h (is_xfer is none c) = makes_files (copy-makes_files s h is c)
+facts_by s h (is_downsample is none layer m) = makes_files (mips-make_files s h is (record { layer = layer; mips = m }))
 facts_by s h (is_count is scratch at r) = makes_files (count-makes_files s h is (record { scratch = scratch; at = at; alone = r }))
 facts_by s h (is_remove is none r) = removes is r
 

@@ -23,3 +23,11 @@ pub mod OwnInputs
 pub mod InputPaths
 pub mod PutOutputs
 pub mod WholeCopies
+pub mod Scales
+pub mod MipWants
+pub mod HalvedTiles
+pub mod Downsamples
+pub mod LabelLists
+pub mod MipBoxes
+pub mod MipTexts
+pub mod WholeMips

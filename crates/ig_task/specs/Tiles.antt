@@ -44,7 +44,7 @@ module _ (place : Place) (parts : Grid) (tiled : IsTiled place parts) where
   chunks-grid : IsGrid (chunks_of place.geometry)
   chunks-grid = chunks-IsGrid place.geometry tiled.fits
 
-  part-within : (k : ℕ) → k < cell_count parts → IsWithin (cell parts k) (space_of place.geometry)
+  pub part-within : (k : ℕ) → k < cell_count parts → IsWithin (cell parts k) (space_of place.geometry)
   part-within k below = subst (IsWithin (cell parts k)) tiled.space (cell-within parts tiled.grid k below)
 
   -- the path is that of this chunk, and it begins in part k
@@ -62,18 +62,26 @@ module _ (place : Place) (parts : Grid) (tiled : IsTiled place parts) where
       let number = hull-cells g (cell parts k) chunks-grid (part-within k below) i few in
       record { number = number_at g c.lo.x c.lo.y c.lo.z; below = number.0; box_is = number.1; path_is = refl }
 
+  -- it begins in the part
+  pub part-begins : (k : ℕ) → k < cell_count parts → (i : ℕ) → i < cell_count (hull (chunks_of place.geometry) (cell parts k))
+      → (let c = cell (hull (chunks_of place.geometry) (cell parts k)) i in IsIn (cell parts k) c.lo.x c.lo.y c.lo.z)
+  part-begins k below i few =
+      let g = chunks_of place.geometry in
+      let a = cell parts k in
+      let c = cell (hull g a) i in
+      subst (λ b. IsIn b c.lo.x c.lo.y c.lo.z) (tiled.whole k below) (low-in_space (hull g a) (hull-IsGrid g a chunks-grid (part-within k below)) i few)
+
   -- each path of a part is of a chunk that begins in it
   pub part-from : (k : ℕ) → k < cell_count parts → (path : List ℕ) → Contains (chunks_in place (cell parts k)) path → IsOfPart k path
   part-from k below path among =
       let g = chunks_of place.geometry in
       let a = cell parts k in
-      let within = part-within k below in
       let v = listed-from (chunk_in place a) (cell_count (hull g a)) path among in
       let c = cell (hull g a) v.number in
       record {
         box = c;
         at = subst (λ (p : List ℕ). IsChunkAt place p c) v.is (part-chunk k below v.number v.below);
-        begins = subst (λ b. IsIn b c.lo.x c.lo.y c.lo.z) (tiled.whole k below) (low-in_space (hull g a) (hull-IsGrid g a chunks-grid within) v.number v.below);
+        begins = part-begins k below v.number v.below;
       }
 
   -- so no path is of two parts

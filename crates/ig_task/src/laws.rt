@@ -1,9 +1,9 @@
 //! The laws of the kinds of stage. Each function has no code: its contract is a law.
-ghost use Rattle.std.specs.Prelude.{◌≡◌, ◌<◌, ℕ, List, [], ◌∷◌, Some, true};
+ghost use Rattle.std.specs.Prelude.{◌≡◌, ◌<◌, ℕ, List, [], ◌∷◌, Some, slice_get, true};
 ghost use Rattle.ig_space.specs.declared.place.Place.{Place};
 ghost use Rattle.ig_defs.specs.Files.{Files, file_at};
 ghost use Rattle.ig_layer.specs.Layer.{Reading};
-ghost use Rattle.ig_record.specs.declared.stage.Kind.TheVariants.{Xfer};
+ghost use Rattle.ig_record.specs.declared.stage.Kind.TheVariants.{Xfer, Downsample};
 ghost use Rattle.ig_record.specs.declared.stage.Stage.{Stage};
 ghost use Rattle.ig_record.specs.Sound.{is_sound};
 ghost use Rattle.ig_record.specs.Stage.{task_count};
@@ -14,8 +14,10 @@ ghost use Rattle.ig_meaning.specs.Wants.{wanted_outputs};
 ghost use Rattle.ig_cutout.specs.declared.types.Output.{Output};
 ghost use Rattle.ig_rule.specs.Facts.{KindLaws};
 ghost use Rattle.ig_task.specs.Facts.{given_to, stage_reader};
+ghost use Rattle.ig_task.specs.MipTexts.{AreOfTheWhole};
 ghost use Rattle.ig_task.specs.Wanted.{AreWanted};
 ghost use Rattle.ig_task.specs.WholeCopies.{WritesChunks};
+ghost use Rattle.ig_task.specs.WholeMips.{WritesScales};
 
 /// Each kind of stage keeps what the laws of the rule rest on.
 pub fn kinds_keep_their_laws()
@@ -38,4 +40,16 @@ pub fn sequential_is_wanted()
 /// layer, whatever the shape.
 pub fn copies_write_all_chunks()
     ensures { (s : Stage) → is_sound s ≡ true → s.kind ≡ Xfer → (dest : Place) → s.dests ≡ dest ∷ [] → WritesChunks s dest }
+{}
+
+/// What is wanted of a chunk of a scale of mips is its text in the mip of the whole source, taken once for the first scale and
+/// once more for each that follows.
+pub fn mips_are_of_the_whole()
+    ensures { (s : Stage) → is_sound s ≡ true → s.kind ≡ Downsample → (m : ℕ) (place : Place) → slice_get s.dests m ≡ Some place → AreOfTheWhole s m place }
+{}
+
+/// The tasks of a stage of mips write all chunks of each of its scales, and no other files. So what is wanted at their paths are
+/// the whole mips, whatever the shape.
+pub fn mips_write_all_chunks()
+    ensures { (s : Stage) → is_sound s ≡ true → s.kind ≡ Downsample → WritesScales s }
 {}

@@ -11,7 +11,8 @@ mod running;
 pub use error::RunError;
 pub use ig_rule::Role;
 pub use laws::{
-    copies_write_all_chunks, kinds_keep_their_laws, outputs_are_wanted, sequential_is_wanted,
+    copies_write_all_chunks, kinds_keep_their_laws, mips_are_of_the_whole, mips_write_all_chunks,
+    outputs_are_wanted, sequential_is_wanted,
 };
 pub use pipeline::Pipeline;
 pub use running::run;

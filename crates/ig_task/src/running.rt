@@ -1,23 +1,25 @@
 //! What a task makes of what was found of its inputs. Nothing is read or put here.
-ghost use Rattle.std.specs.Prelude.{◌≡◌, ◌≢◌, ◌<◌, [], ◌∷◌, IfOk, IfErr, None, Some, map, option_map, true};
+ghost use Rattle.std.specs.Prelude.{◌≡◌, ◌≢◌, ◌<◌, ◌+◌, [], ◌∷◌, ◌++◌, IfOk, IfErr, OnOk, None, Some, length, map, option_map, reverse, true};
 ghost use Rattle.ig_space.specs.Grid.{size_of};
 ghost use Rattle.ig_space.specs.Raw.{AllFit};
 ghost use Rattle.ig_layer.specs.Layer.{Reading};
-ghost use Rattle.ig_record.specs.declared.stage.Kind.TheVariants.{Xfer, Count, Remove};
+ghost use Rattle.ig_mode.specs.HasMips.{HasMip};
+ghost use Rattle.ig_record.specs.declared.stage.Kind.TheVariants.{Xfer, Downsample, Count, Remove};
 ghost use Rattle.ig_record.specs.Sound.{is_sound};
 ghost use Rattle.ig_record.specs.Columns.{inputs_of, paths_of};
 ghost use Rattle.ig_record.specs.Stage.{task_box, task_count};
 ghost use Rattle.ig_meaning.specs.Task.{task_outputs, task_refusal};
 ghost use Rattle.ig_meaning.specs.Wants.{removal_of};
 ghost use Rattle.ig_cutout.specs.Inputs.{HoldsAll, paths_of as input_paths};
-ghost use Rattle.ig_task.specs.Answers.{AreMadeOf, missing_path, RefusesTask};
+ghost use Rattle.ig_task.specs.Answers.{AreMadeOf, AreOfMip, missing_path, RefusesTask};
 ghost use Rattle.ig_task.specs.Facts.{given_to};
 ghost use Rattle.ig_task.specs.Wanted.{AreWanted};
 
 use crate::RunError;
 use ig_count::{count, write_counts};
 use ig_cutout::{Inputs, Output, Outputs, assemble, cut_chunks};
-use ig_record::{Kind, Stage, paths};
+use ig_mode::mips;
+use ig_record::{Kind, Stage, box_written, paths};
 use ig_space::{Path, Place, TryClone, Volume};
 use std::alloc::{AllocError, Global};
 
@@ -52,6 +54,79 @@ fn copied(alloc: Global, stage: &Stage, task: u32, volume: &Volume) -> Result<Ou
     ensures { IfOk result (AreMadeOf stage.now task volume.now.labels) }
 {
     let outputs = cut_chunks(alloc, dest(stage), stage.task_box(task), volume)?;
+    Ok(outputs)
+}
+
+/// The items of a list, the last one first.
+fn reversed(alloc: Global, outputs: Outputs) -> Result<Outputs, AllocError>
+    ensures { IfOk result (λ last_first. last_first ≡ reverse outputs) }
+{
+    let mut rest = outputs;
+    let mut last_first = Outputs::new(alloc);
+    while let Some(output) = rest.pop() {
+        last_first.push(output)?;
+    }
+    Ok(last_first)
+}
+
+/// Moves the items of a list to the end of another.
+fn add_all(alloc: Global, outputs: &mut Outputs, more: Outputs) -> Result<(), AllocError>
+    ensures { OnOk result (outputs.new ≡ outputs.old ++ more) }
+{
+    let mut rest = reversed(alloc, more)?;
+    while let Some(output) = rest.pop() {
+        outputs.push(output)?;
+    }
+    Ok(())
+}
+
+/// The chunks of a mip of the labels of the task's box, in the scale at this place, from 0 on.
+fn mip_chunks(
+    alloc: Global,
+    stage: &Stage,
+    task: u32,
+    place: u32,
+    volume: &Volume,
+    mip: &Volume,
+) -> Result<Outputs, AllocError>
+    requires sound { is_sound stage.now ≡ true }
+    requires mips { stage.now.kind ≡ Downsample }
+    requires below { task < task_count stage.now }
+    requires size { volume.now.size ≡ size_of (task_box stage.now task) }
+    requires fit { AllFit stage.now.source.geometry.width volume.now.labels }
+    requires scale { place < length stage.now.dests }
+    requires mip { HasMip (place + 1) volume.now mip.now }
+    ensures { IfOk result (AreOfMip stage.now task place volume.now.labels) }
+{
+    let dest = &stage.dests.as_slice()[place as usize];
+    let area = box_written(stage, task, place + 1);
+    // read for what their contracts say: that each volume has as many labels as its size tells
+    let (_labels, _halved) = (volume.labels(), mip.labels());
+    cut_chunks(alloc, dest, area, mip)
+}
+
+/// The chunks of the mips of the labels of the task's box, scale by scale.
+fn downsampled(
+    alloc: Global,
+    stage: &Stage,
+    task: u32,
+    volume: &Volume,
+) -> Result<Outputs, AllocError>
+    requires sound { is_sound stage.now ≡ true }
+    requires mips { stage.now.kind ≡ Downsample }
+    requires below { task < task_count stage.now }
+    requires size { volume.now.size ≡ size_of (task_box stage.now task) }
+    requires fit { AllFit stage.now.source.geometry.width volume.now.labels }
+    ensures { IfOk result (AreMadeOf stage.now task volume.now.labels) }
+{
+    let levels = stage.dests.len() as u32;
+    let volumes = mips(alloc, volume, levels)?;
+    let mut outputs = Outputs::new(alloc);
+    for place in 0..levels {
+        let mip = &volumes.as_slice()[place as usize];
+        let chunks = mip_chunks(alloc, stage, task, place, volume, mip)?;
+        add_all(alloc, &mut outputs, chunks)?;
+    }
     Ok(outputs)
 }
 
@@ -93,8 +168,9 @@ fn made_of(alloc: Global, stage: &Stage, task: u32, volume: &Volume) -> Result<O
 {
     match stage.kind {
         Kind::Xfer => copied(alloc, stage, task, volume),
+        Kind::Downsample => downsampled(alloc, stage, task, volume),
         Kind::Count => counted(alloc, stage, task, volume),
-        Kind::Downsample | Kind::Faces | Kind::Links | Kind::Labels => unreachable!(),
+        Kind::Faces | Kind::Links | Kind::Labels => unreachable!(),
         Kind::Relabel | Kind::Sum | Kind::Remove => unreachable!(),
     }
 }
