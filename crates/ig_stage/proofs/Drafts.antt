@@ -67,6 +67,9 @@ module _ (s : Scale) (h : scale_fits s ≡ true) where
       and_from (is_path s.key) (nat_le (length s.key) 100)
       (and_parts (is_path s.key) (nat_le (length s.key) 100 && (all_within 1 (2 ^ 32) s.resolution && geometry_fits s.geometry)) h).0 within_limits.0
 
+  pub resolution_of_fitting : all_within 1 (2 ^ 32) s.resolution ≡ true
+  resolution_of_fitting = (and_parts (all_within 1 (2 ^ 32) s.resolution) (geometry_fits s.geometry) within_limits.1).0
+
   pub geometry_of_fitting : geometry_fits s.geometry ≡ true
   geometry_of_fitting = (and_parts (all_within 1 (2 ^ 32) s.resolution) (geometry_fits s.geometry) within_limits.1).1
 
@@ -74,7 +77,7 @@ module _ (s : Scale) (h : scale_fits s ≡ true) where
   sides_of_fitting = sides_of_chunk s.geometry geometry_of_fitting
 
 -- ---- the layers
-word_of : (layer : List ℕ) → is_path layer ≡ true → length layer ≤ 100 → is_word layer ≡ true
+pub word_of : (layer : List ℕ) → is_path layer ≡ true → length layer ≤ 100 → is_word layer ≡ true
 word_of layer path short = and_from (is_path layer) (nat_le (length layer) 100) path (le-leb (length layer) 100 short)
 
 pub layer_of : (r : Request) (d : HasDest r) → new_layer (shown_request r) ≡ d.layer

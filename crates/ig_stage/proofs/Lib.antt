@@ -4,6 +4,11 @@ pub mod OthersLooks
 pub mod InfoTexts
 pub mod Members
 pub mod Drafts
+pub mod MipDrafts
+pub mod MipSteps
+pub mod MipDirs
+pub mod AddedMips
+pub mod MipKeys
 pub mod Sounds
 pub mod Makings
 pub mod NewLayers

@@ -4,7 +4,6 @@ use Rattle.std.proofs.lemmas.Bool.{and_from, eq-eqb}
 use Rattle.std.proofs.lemmas.Slice.Eq.{bytes_eq-Decides}
 use Rattle.std.specs.Str.{bytes_eq, is_utf8}
 use Rattle.ig_space.specs.declared.geometry.Geometry.{Geometry}
-use Rattle.ig_space.specs.declared.geometry.Width.{Width}
 use Rattle.ig_space.specs.declared.place.Place.{Place}
 use Rattle.ig_space.specs.declared.point.Point.{Point}
 use Rattle.ig_space.specs.Geometry.{geometry_fits, label_len}
@@ -23,7 +22,7 @@ before-joined layer key =
     let long : length (layer ++ 47 ∷ key) - suc (length key) ≡ length layer = omega (arith, length-append layer (47 ∷ key)) in
     ap (λ n. take n (layer ++ 47 ∷ key)) long ∙ take-first layer (47 ∷ key)
 
-text-is : (a b : List ℕ) → a ≡ b → bytes_eq a b ≡ true
+pub text-is : (a b : List ℕ) → a ≡ b → bytes_eq a b ≡ true
 text-is a b = (bytes_eq-Decides a b).1
 
 key-holds : (layer key : List ℕ) → is_word layer ≡ true → has_key key (joined layer key) ≡ true
@@ -37,7 +36,7 @@ info-holds layer key info at text =
     (and_from (bytes_eq info.path (joined layer (codes "info"))) (is_utf8 info.text) (text-is info.path (joined layer (codes "info")) at) text)
 
 -- ---- the voxels
-point-holds : (p q : Point) → q ≡ p → same_point p q ≡ true
+pub point-holds : (p q : Point) → q ≡ p → same_point p q ≡ true
 point-holds p q e =
     let x : p.x ≡ q.x = sym (ap (λ (r : Point). r.x) e) in
     let y : p.y ≡ q.y = sym (ap (λ (r : Point). r.y) e) in

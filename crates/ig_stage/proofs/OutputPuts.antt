@@ -1,7 +1,7 @@
 -- Putting the outputs of a task, one after the other.
-use Rattle.std.proofs.Common.{arith, ◌≡◌, ◌<◌, ◌+◌, ℕ, zero, suc, List, [], ◌∷◌, ◌++◌, length, take, map, get_or, None, Some, Result, Ok, Err, refl, sym, ap, subst, ◌∙◌}
+use Rattle.std.proofs.Common.{arith, ◌≡◌, ◌<◌, ◌+◌, ℕ, zero, suc, List, [], ◌∷◌, ◌++◌, length, take, get_or, None, Some, Result, Ok, Err, refl, sym, ap, subst, ◌∙◌}
 use Rattle.std.proofs.Math.Seq.{take-suc}
-use Rattle.std.proofs.lemmas.List.{append-nil, append_assoc}
+use Rattle.std.proofs.lemmas.List.{append-nil}
 use Rattle.ig_defs.specs.declared.step.Act.TheVariants as act
 use Rattle.ig_defs.specs.Log.{Log}
 use Rattle.ig_defs.specs.Own.{File}
@@ -9,7 +9,6 @@ use Rattle.ig_meaning.specs.Ending.{Ending, Finished, Refuses, StoreFailed, NoMe
 use Rattle.ig_meaning.specs.JobLaws.{files_put-append}
 use Rattle.ig_meaning.specs.Jobs.{file_put, files_put}
 use Rattle.ig_cutout.specs.declared.types.Output.{Output}
-use Rattle.ig_cutout.specs.Outputs.{output_of}
 use Rattle.ig_stage.specs.Did.{Did, not_made, was_made}
 use Rattle.ig_stage.specs.Running.{FailsToPut, FailsToPutAll, PutSoFar, PutsFile, PutsSome, PutsOutputs, ending_of_local, puts_all}
 use Rattle.ig_stage.specs.declared.error.LocalError.{LocalError}

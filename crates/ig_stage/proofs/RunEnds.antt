@@ -13,7 +13,6 @@ use Rattle.ig_meaning.specs.Finds.{fault_of_tasks-goes_on, fault_of_tasks-refuse
 use Rattle.ig_meaning.specs.JobLaws.{changes-grow, files_put-append, files_put-of, ran-made, ran-refused, ran_first, run-stops}
 use Rattle.ig_meaning.specs.Jobs.{Ran, file_of, files_put, info_files, planned_puts, with_info}
 use Rattle.ig_meaning.specs.Refusal.{Refusal}
-use Rattle.ig_cutout.specs.declared.types.Output.{Output}
 use Rattle.ig_cutout.specs.Outputs.{output_of}
 use Rattle.ig_record.specs.declared.stage.Stage.{Stage}
 use Rattle.ig_record.specs.declared.stage.InfoFile.{InfoFile}

@@ -17,7 +17,7 @@ use Rattle.ig_meaning.specs.Taken.{has_info_among, removes_one, share_one, taker
 use Rattle.ig_meaning.specs.Words.{Request}
 use Rattle.ig_record.specs.declared.stage.InfoFile.{InfoFile}
 use Rattle.ig_record.specs.declared.stage.Kind.{Kind}
-use Rattle.ig_record.specs.declared.stage.Kind.TheVariants.{Xfer, Count, Remove}
+use Rattle.ig_record.specs.declared.stage.Kind.TheVariants.{Xfer, Downsample, Count, Remove}
 use Rattle.ig_record.specs.declared.stage.Stage.{Stage}
 use Rattle.ig_record.specs.Columns.{output_dirs, removed_by, removed_dir}
 use Rattle.ig_rule.specs.Facts.{Facts}
@@ -89,13 +89,14 @@ unfit_same ss ts s read = ap (λ taker. or_else (option_map Taken taker) (unfit 
 -- ---- what is planned after them
 
 module _ (ss ts : List Stage) (read : AreRead 0 ss ts) (request : Request) where
-  by_kind : (kind : Kind) (scale : Scale) → planned_by kind ss request scale ≡ planned_by kind ts request scale
-  by_kind Xfer scale = refl
-  by_kind Count scale = refl
-  by_kind kind scale = refl
+  by_kind : (kind : Kind) (info : InfoData) (scale : Scale) → planned_by kind ss request info scale ≡ planned_by kind ts request info scale
+  by_kind Xfer info scale = refl
+  by_kind Downsample info scale = refl
+  by_kind Count info scale = refl
+  by_kind kind info scale = refl
 
   by_scale : (info : InfoData) (found : Option Scale) → with_scale ss request info found ≡ with_scale ts request info found
-  by_scale info (Some scale) = by_kind request.kind scale
+  by_scale info (Some scale) = by_kind request.kind info scale
   by_scale info None = refl
 
   by_info : (info : Result InfoData InfoError) → with_info ss request info ≡ with_info ts request info

@@ -1,5 +1,5 @@
 -- What a task of a stage that makes files makes are files.
-use Rattle.std.proofs.Common.{◌≡◌, ℕ, false, List, Some, is_some, map, sym, ap, ◌∙◌}
+use Rattle.std.proofs.Common.{◌≡◌, ℕ, false, List, Some, is_some, sym, ap, ◌∙◌}
 use Rattle.ig_layer.specs.Layer.{Reading}
 use Rattle.ig_record.specs.declared.stage.Stage.{Stage}
 use Rattle.ig_record.specs.Columns.{removed_dir}

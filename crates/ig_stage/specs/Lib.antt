@@ -1,5 +1,6 @@
 pub mod Pipeline
 pub mod Requests
+pub mod Mips
 pub mod Did
 pub mod Drafts
 pub mod Errors

@@ -2,8 +2,8 @@
 use Rattle.std.specs.Prelude.{◌≡◌, ◌≢◌, ◌≤◌, ℕ, true, List, [], ◌∷◌, Some, IfSome, length, option_map}
 use Rattle.ig_space.specs.declared.point.Point.{Point}
 use Rattle.ig_space.specs.Path.{is_path}
-use Rattle.ig_record.specs.declared.stage.Kind.TheVariants.{Remove}
-use Rattle.ig_record.specs.Sound.{has_come}
+use Rattle.ig_record.specs.declared.stage.Kind.TheVariants.{Downsample, Remove}
+use Rattle.ig_record.specs.Sound.{has_come, most_mips}
 use Rattle.ig_meaning.specs.Words as meaning
 use Rattle.ig_meaning.specs.Words.{Compressed, Plain, writes_layer}
 use Rattle.ig_stage.specs.declared.request.Coding.{Coding}
@@ -54,7 +54,8 @@ pub record HasLimits (request : Request) : Type 0 where
   pub source_short : length request.source ≤ 100
   pub dest : writes_layer request.kind ≡ true → HasDest request
   pub mip_limit : request.mip ≤ 99
-  pub no_levels : request.levels ≡ 0
+  pub few_levels : request.levels ≤ most_mips
+  pub some_levels : request.kind ≡ Downsample → 1 ≤ request.levels
   pub chunk_sides : IfSome request.chunk HasSides
   pub shape_sides : IfSome request.shape HasSides
 

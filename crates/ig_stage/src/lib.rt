@@ -10,6 +10,7 @@ mod enqueuing;
 mod error;
 mod local;
 mod making;
+mod mipping;
 mod paths;
 mod planning;
 mod puts;

@@ -20,6 +20,7 @@ ghost use Rattle.ig_meaning.specs.Words.{new_layer as new_layer_of};
 ghost use Rattle.ig_stage.specs.declared.error.MakeError.TheVariants as make;
 ghost use Rattle.ig_stage.specs.Requests.{shown_coding, shown_request, HasDest, HasLimits, HasSides};
 
+use crate::mipping::plan_mips;
 use crate::{Coding, MakeError, Request, Stages};
 use ig_info::{Info, InfoError, Scale, dest_info, read_info, write_info};
 use ig_record::{InfoFile, Kind, MOST_TASKS, MOST_VOXELS, Places, Stage};
@@ -27,7 +28,7 @@ use ig_space::{Bytes, Encoding, Geometry, Path, Place, Point, TryClone};
 use std::alloc::{AllocError, Global};
 
 /// The error of an info that is refused.
-fn info_error(path: Path, cause: InfoError) -> MakeError
+pub(crate) fn info_error(path: Path, cause: InfoError) -> MakeError
     ensures { result ≡ info_error_of path cause }
 {
     match cause {
@@ -139,7 +140,7 @@ fn new_info(
 }
 
 /// The scale in the layer.
-fn place_of(alloc: Global, layer: &Path, scale: &Scale) -> Result<Place, AllocError>
+pub(crate) fn place_of(alloc: Global, layer: &Path, scale: &Scale) -> Result<Place, AllocError>
     requires layer { length layer.now ≤ 100 }
     requires fits { scale_fits scale.now ≡ true }
     ensures { IfOk result (λ place. place ≡ place_in layer.now scale.now) }
@@ -150,32 +151,30 @@ fn place_of(alloc: Global, layer: &Path, scale: &Scale) -> Result<Place, AllocEr
     })
 }
 
-/// Twice on each axis.
-fn twice(size: Point) -> Point
-    requires x { size.x ≤ 2 ^ 40 }
-    requires y { size.y ≤ 2 ^ 40 }
-    requires z { size.z ≤ 2 ^ 40 }
-    ensures { result ≡ times 2 size }
-{
-    Point {
-        x: 2 * size.x,
-        y: 2 * size.y,
-        z: 2 * size.z,
-    }
-}
-
-/// The size of a task's box: what is asked for, else twice a chunk on each axis.
-fn box_size(asked: Option<Point>, chunk: Point) -> Point
-    requires asked { IfSome asked HasSides }
-    requires chunk { HasSides chunk }
-    ensures value { result ≡ unwrap_or asked (times 2 chunk) }
+/// Twice a chunk on each axis.
+fn twice(chunk: Point) -> Point
+    requires { HasSides chunk }
+    ensures value { result ≡ times 2 chunk }
     ensures some { HasSome result }
     ensures small { IsSmall result }
 {
-    match asked {
-        Some(size) => size,
-        None => twice(chunk),
+    Point {
+        x: 2 * chunk.x,
+        y: 2 * chunk.y,
+        z: 2 * chunk.z,
     }
+}
+
+/// The size of a task's box: what is asked for, else the usual one.
+pub(crate) fn box_size(asked: Option<Point>, usual: Point) -> Point
+    requires asked { IfSome asked HasSides }
+    requires some { HasSome usual }
+    requires small { IsSmall usual }
+    ensures value { result ≡ unwrap_or asked usual }
+    ensures some { HasSome result }
+    ensures small { IsSmall result }
+{
+    asked.unwrap_or(usual)
 }
 
 /// Plans the copy of this scale.
@@ -197,7 +196,7 @@ fn plan_copy(alloc: Global, request: &Request, scale: &Scale) -> Result<Stage, M
         source: place_of(alloc, &request.source, scale)?,
         dests,
         scratch: None,
-        shape: box_size(request.shape, new.geometry.chunk),
+        shape: box_size(request.shape, twice(new.geometry.chunk)),
         info: Some(info),
     })
 }
@@ -229,29 +228,32 @@ fn plan_count(alloc: Global, request: &Request, scale: &Scale) -> Result<Stage, 
         source: place_of(alloc, &request.source, scale)?,
         dests: Places::new(alloc),
         scratch: Some(scratch_of(alloc, &request.source, "voxels", scale)?),
-        shape: box_size(request.shape, scale.geometry.chunk),
+        shape: box_size(request.shape, twice(scale.geometry.chunk)),
         info: None,
     })
 }
 
-/// By the kind: plans the stage of this scale, after these earlier ones.
+/// By the kind: plans the stage of this scale of a layer with this info, after these earlier ones.
 fn plan_scale(
     alloc: Global,
     request: &Request,
     _earlier: &Stages,
+    info: &Info,
     scale: &Scale,
 ) -> Result<Stage, MakeError>
     requires limits { HasLimits request.now }
     requires fits { scale_fits scale.now ≡ true }
-    ensures planned { IfOk result (λ stage. planned_by request.now.kind _earlier.now (shown_request request.now) scale.now ≡ Ok stage) }
+    requires found { slice_get info.now.scales request.now.mip ≡ Some scale.now }
+    ensures planned { IfOk result (λ stage. planned_by request.now.kind _earlier.now (shown_request request.now) info.now scale.now ≡ Ok stage) }
     ensures draft { IfOk result IsDraft }
-    ensures refused { IfErr result (λ e. Explains (ending_of_make e) (planned_by request.now.kind _earlier.now (shown_request request.now) scale.now)) }
+    ensures refused { IfErr result (λ e. Explains (ending_of_make e) (planned_by request.now.kind _earlier.now (shown_request request.now) info.now scale.now)) }
 {
     match request.kind {
         Kind::Xfer => plan_copy(alloc, request, scale),
+        Kind::Downsample => plan_mips(alloc, request, info, scale),
         Kind::Count => plan_count(alloc, request, scale),
         Kind::Remove => unreachable!(),
-        Kind::Downsample | Kind::Faces | Kind::Links | Kind::Labels => unreachable!(),
+        Kind::Faces | Kind::Links | Kind::Labels => unreachable!(),
         Kind::Relabel | Kind::Sum => unreachable!(),
     }
 }
@@ -271,7 +273,7 @@ pub fn plan(
 {
     let info = source_info(alloc, request, earlier, bytes)?;
     match info.scale(request.mip) {
-        Some(scale) => plan_scale(alloc, request, earlier, scale),
+        Some(scale) => plan_scale(alloc, request, earlier, &info, scale),
         None => Err(MakeError::NoScale {
             mip: request.mip,
             count: info.count(),

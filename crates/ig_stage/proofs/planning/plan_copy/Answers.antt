@@ -4,8 +4,8 @@ use Rattle.ig_record.specs.declared.stage.InfoFile.{InfoFile}
 use Rattle.ig_stage.proofs.Drafts.{copy-draft, sides_of_fitting}
 use Rattle.ig_stage.proofs.planning.plan_copy.Goals as goal
 
-pub box_size-requires-clause-chunk : goal.box_size-requires-clause-chunk
-box_size-requires-clause-chunk c = sides_of_fitting c.in_ok-new.new c.in_ok-info.ensures.fits
+pub twice-requires : goal.twice-requires
+twice-requires c = sides_of_fitting c.in_ok-new.new c.in_ok-info.ensures.fits
 
 pub returns-clause-draft : goal.returns-clause-draft
 returns-clause-draft c =

@@ -2,8 +2,8 @@ use Rattle.std.proofs.Common.{Some, ap, refl}
 use Rattle.ig_stage.proofs.Drafts.{count-draft, sides_of_fitting}
 use Rattle.ig_stage.proofs.planning.plan_count.Goals as goal
 
-pub box_size-requires-clause-chunk : goal.box_size-requires-clause-chunk
-box_size-requires-clause-chunk c = sides_of_fitting c.args.scale.now c.requires.fits
+pub twice-requires : goal.twice-requires
+twice-requires c = sides_of_fitting c.args.scale.now c.requires.fits
 
 pub returns-clause-draft : goal.returns-clause-draft
 returns-clause-draft c =

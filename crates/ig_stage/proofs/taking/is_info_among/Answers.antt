@@ -1,6 +1,5 @@
-use Rattle.std.proofs.Common.{◌≡◌, refl, sym, subst, List, ℕ, codes, ◌∙◌, ap}
-use Rattle.ig_space.specs.Path.{joined}
-use Rattle.ig_record.specs.Columns.{is_among, output_dirs}
+use Rattle.std.proofs.Common.{refl, sym, ◌∙◌}
+use Rattle.ig_record.specs.Columns.{output_dirs}
 use Rattle.ig_stage.proofs.InfoPaths.{info-among, no-info}
 use Rattle.ig_stage.proofs.taking.is_info_among.Goals as goal
 
