@@ -9,7 +9,7 @@ use Rattle.ig_defs.specs.Log.{Log}
 use Rattle.ig_meaning.specs.Call.{IsReady}
 use Rattle.ig_meaning.specs.Lines.{fault_line, memory_text}
 use Rattle.ig_meaning.specs.Plan.{stage_of_command}
-use Rattle.ig_meaning.specs.Words.{Command, command_of, queue_of_words}
+use Rattle.ig_meaning.specs.Words.{Command, command_of, queue_of_command, queue_of_words}
 use Rattle.ig_record.specs.declared.stage.Stage.{Stage}
 use Rattle.ig_rule.specs.Sound.{Legal}
 use Rattle.ig_defs.specs.TurnLaws.{idled_nothing}
@@ -63,6 +63,14 @@ pub not_ready : (words : List (List ℕ)) (plan : Plan) (files : Files) → Some
 not_ready words plan files some ready =
     let asked = asked_of (command_of words) files ready.stage ready.planned in
     not_asked words plan asked.0 some asked.1
+
+queued_of : (o : Option Command) (q : List ℕ) → queue_of_command o ≡ Some q → (command : Command) × (o ≡ Some command)
+queued_of None q is = absurd (none-some q is)
+queued_of (Some command) q is = (command, refl)
+
+-- nor of one that has a queue
+pub not_queued : (words : List (List ℕ)) (plan : Plan) (q : List ℕ) → Some plan ≡ plan_of_words words → queue_of_words words ≡ Some q → ⊥
+not_queued words plan q some is = let asked = queued_of (command_of words) q is in not_asked words plan asked.0 some asked.1
 
 -- ---- the queue
 -- that of the plan

@@ -6,6 +6,7 @@ use Rattle.ig_meaning.specs.QueueWords.{is_apart}
 use Rattle.ig_meaning.specs.Words as meaning
 use Rattle.ig_meaning.specs.Words.{Request}
 use Rattle.ig_record.specs.declared.stage.Kind.{Kind}
+use Rattle.ig_record.specs.declared.stage.Kind.TheVariants.{Downsample}
 use Rattle.ig_stage.specs.declared.request.Request as reading
 use Rattle.ig_stage.specs.Requests.{HasLimits, HasSides, shown_coding, shown_request}
 use Rattle.ig_worker.specs.declared.plan.Plan.{Plan}
@@ -25,16 +26,19 @@ request_with kind source dest sizes = record {
   source = source;
   dest = dest;
   mip = sizes.mip;
-  levels = 0;
+  levels = sizes.levels;
   chunk = sizes.chunk;
   shape = sizes.shape;
   encoding = option_map shown_coding sizes.encoding;
   block = sizes.block;
 }
 
--- the number of the scale has at most two digits, and each side that is given is within its limits
-pub record HasSizes (sizes : Sizes) : Type 0 where
+-- the number of the scale has at most two digits, mips are one to five of the kind that makes mips, and each side that is given is
+-- within its limits
+pub record HasSizes (kind : Kind) (sizes : Sizes) : Type 0 where
   pub mip_limit : sizes.mip ≤ 99
+  pub few_levels : sizes.levels ≤ 5
+  pub some_levels : kind ≡ Downsample → 1 ≤ sizes.levels
   pub chunk_sides : IfSome sizes.chunk HasSides
   pub shape_sides : IfSome sizes.shape HasSides
 

@@ -1,15 +1,15 @@
 //! The words of a command: `image xfer SRC DEST [--mip N] [--chunk-size X,Y,Z] [--shape X,Y,Z]
-//! [--encoding E] [--block-size X,Y,Z] [--queue fq://PATH]`, and
+//! [--encoding E] [--block-size X,Y,Z] [--queue fq://PATH]`,
+//! `image downsample SRC [--mip N] [--num-mips M] [--shape X,Y,Z] [--queue fq://PATH]`, and
 //! `image voxels count SRC --queue fq://PATH [--mip N] [--shape X,Y,Z]`.
 ghost use Rattle.std.specs.Prelude.{◌≡◌, ◌≢◌, ◌≤◌, IfOk, IfSome, List, Option, ℕ, codes, map, option_map, true, false};
-ghost use Rattle.ig_record.specs.declared.stage.Kind as declared;
-ghost use Rattle.ig_record.specs.declared.stage.Kind.TheVariants.{Remove};
+ghost use Rattle.ig_record.specs.declared.stage.Kind.TheVariants.{Downsample, Remove};
 ghost use Rattle.ig_record.specs.Sound.{has_come};
 ghost use Rattle.std.specs.List.{list_all};
 ghost use Rattle.ig_space.specs.Path.{is_path};
 ghost use Rattle.ig_meaning.specs.Options.{is_short_path, number_in, value_or, values_of};
 ghost use Rattle.ig_meaning.specs.QueueWords.{is_apart};
-ghost use Rattle.ig_meaning.specs.Words.{are_apart, are_layers, coding_given, coding_of, command_as, command_in, command_of, command_with, image_command, is_dest_apart, is_option, request_between, request_in, request_of, runs_alone, sides_given, voxels_command, writes_layer};
+ghost use Rattle.ig_meaning.specs.Words.{are_apart, are_layers, coding_given, coding_of, command_as, command_in, command_of, command_with, image_command, is_dest_apart, is_option, levels_given, request_between, request_in, request_of, runs_alone, sides_given, voxels_command, writes_layer};
 ghost use Rattle.ig_stage.specs.Requests.{HasLimits, HasSides, shown_coding, shown_request};
 ghost use Rattle.ig_cli.specs.Options.{both, text_of};
 ghost use Rattle.ig_cli.specs.Parts.{shown};
@@ -35,6 +35,7 @@ pub enum Command {
 #[derive(Clone, Copy)]
 struct Sizes {
     mip: u32,
+    levels: u32,
     chunk: Option<Point>,
     shape: Option<Point>,
     encoding: Option<Coding>,
@@ -43,6 +44,9 @@ struct Sizes {
 
 /// The largest number of a scale.
 const LARGEST_MIP: u64 = 99;
+
+/// The most mips that a command adds.
+const MOST_LEVELS: u64 = 5;
 
 /// Whether the words may name a layer and a new one.
 fn are_layer_words(source: &str, dest: &str) -> bool
@@ -73,8 +77,11 @@ fn is_option(kind: Kind, name: &str) -> bool
                 || name == "--block-size"
                 || name == "--queue"
         }
+        Kind::Downsample => {
+            name == "--mip" || name == "--num-mips" || name == "--shape" || name == "--queue"
+        }
         Kind::Count => name == "--mip" || name == "--shape" || name == "--queue",
-        Kind::Downsample | Kind::Faces | Kind::Links | Kind::Labels => false,
+        Kind::Faces | Kind::Links | Kind::Labels => false,
         Kind::Relabel | Kind::Sum | Kind::Remove => false,
     }
 }
@@ -91,8 +98,8 @@ fn runs_alone(kind: Kind) -> bool
     ensures { result ≡ runs_alone kind }
 {
     match kind {
-        Kind::Xfer => true,
-        Kind::Downsample | Kind::Faces | Kind::Links | Kind::Labels => false,
+        Kind::Xfer | Kind::Downsample => true,
+        Kind::Faces | Kind::Links | Kind::Labels => false,
         Kind::Relabel | Kind::Count | Kind::Sum | Kind::Remove => false,
     }
 }
@@ -114,6 +121,19 @@ fn mip_of(options: &[(&str, &str)]) -> Option<u32>
     ensures limit { IfSome result (λ mip. mip ≤ 99) }
 {
     Some(number_or(options, "--mip", 0, 0, LARGEST_MIP)? as u32)
+}
+
+/// How many mips a stage of this kind adds: as the option gives, and 1 where none does; of a kind that adds none, 0.
+fn levels_of(kind: Kind, options: &[(&str, &str)]) -> Option<u32>
+    ensures value { result ≡ levels_given kind (values_of (codes "--num-mips") (map both options.now)) }
+    ensures few { IfSome result (λ levels. levels ≤ 5) }
+    ensures some { IfSome result (λ levels. kind ≡ Downsample → 1 ≤ levels) }
+{
+    match kind {
+        Kind::Downsample => Some(number_or(options, "--num-mips", 1, 1, MOST_LEVELS)? as u32),
+        Kind::Xfer | Kind::Faces | Kind::Links | Kind::Labels => Some(0),
+        Kind::Relabel | Kind::Count | Kind::Sum | Kind::Remove => Some(0),
+    }
 }
 
 /// The sides that the option with this name gives, where it is given.
@@ -150,14 +170,15 @@ fn coding_given(options: &[(&str, &str)]) -> Option<Option<Coding>>
     }
 }
 
-/// What these options give; `None` exactly where one of them is given twice or has a faulty value.
+/// What these options give a stage of this kind; `None` exactly where one of them is given twice or has a faulty value.
 #[tactic(auto, unfolding(ig_meaning::specs::Words::request_of))]
-fn sizes_of(options: &[(&str, &str)]) -> Option<Sizes>
-    ensures value { (kind : declared.Kind) (source : List ℕ) (dest : Option (List ℕ)) → option_map (request_with kind source dest) result ≡ request_of kind (map both options.now) source dest }
-    ensures limits { IfSome result HasSizes }
+fn sizes_of(kind: Kind, options: &[(&str, &str)]) -> Option<Sizes>
+    ensures value { (source : List ℕ) (dest : Option (List ℕ)) → option_map (request_with kind source dest) result ≡ request_of kind (map both options.now) source dest }
+    ensures limits { IfSome result (HasSizes kind) }
 {
     Some(Sizes {
         mip: mip_of(options)?,
+        levels: levels_of(kind, options)?,
         chunk: sides_given(options, "--chunk-size")?,
         shape: sides_given(options, "--shape")?,
         encoding: coding_given(options)?,
@@ -174,7 +195,7 @@ fn request_of(kind: Kind, source: Path, dest: Option<Path>, sizes: Sizes) -> Req
         source,
         dest,
         mip: sizes.mip,
-        levels: 0,
+        levels: sizes.levels,
         chunk: sizes.chunk,
         shape: sizes.shape,
         encoding: sizes.encoding,
@@ -195,7 +216,7 @@ fn with_new_layer(alloc: Global, kind: Kind, parts: &Parts) -> Result<Option<Req
     if !are_layer_words(source, dest) {
         return Ok(None);
     }
-    let Some(sizes) = sizes_of(&parts.options) else {
+    let Some(sizes) = sizes_of(kind, &parts.options) else {
         return Ok(None);
     };
     let dest = path_of(alloc, dest)?;
@@ -216,7 +237,7 @@ fn with_source(alloc: Global, kind: Kind, parts: &Parts) -> Result<Option<Reques
     if !is_short_path(source) {
         return Ok(None);
     }
-    let Some(sizes) = sizes_of(&parts.options) else {
+    let Some(sizes) = sizes_of(kind, &parts.options) else {
         return Ok(None);
     };
     Ok(Some(request_of(kind, path_of(alloc, source)?, None, sizes)))
@@ -337,6 +358,8 @@ fn image_command(alloc: Global, words: &[String]) -> Result<Option<Command>, All
     };
     if first.as_str() == "xfer" {
         command_as(alloc, Kind::Xfer, words)
+    } else if first.as_str() == "downsample" {
+        command_as(alloc, Kind::Downsample, words)
     } else if first.as_str() == "voxels" {
         voxels_command(alloc, words)
     } else {

@@ -2,7 +2,7 @@ use Rattle.std.proofs.Common.{inr, None, Some, IfSome, ap, ◌∙◌, refl, sym,
 use Rattle.ig_worker.specs.Plans.{HasLimits}
 use Rattle.ig_cli.specs.Words.{texts_of}
 use Rattle.ig_cli.proofs.Drains.{holds_exactly}
-use Rattle.ig_cli.proofs.TopCall.{not_asked, not_ready, of_other, of_worker, queue_given, stays_legal, unread_ends, unread_worked, worker_ends, worker_legal}
+use Rattle.ig_cli.proofs.TopCall.{not_asked, not_queued, not_ready, of_other, of_worker, queue_given, stays_legal, unread_ends, unread_worked, worker_ends, worker_legal}
 use Rattle.ig_cli.proofs.WorkerFinishes.{worker_finishes}
 use Rattle.ig_cli.proofs.WorkerLeases.{unread_leases, worker_leases}
 use Rattle.ig_cli.proofs.command.igneous.Goals as goal
@@ -18,6 +18,18 @@ returns-in-Ok-Some-clause-complete g c = λ tells ready store_quiet out_quiet.
 pub returns-in-Ok-Some-clause-complete_made : goal.returns-in-Ok-Some-clause-complete_made
 returns-in-Ok-Some-clause-complete_made g c = λ tells q request asked legal can own store_quiet out_quiet.
     absurd (not_asked (texts_of c.args.words.now.items) c.in-Ok-Some.plan _ (sym c.in-Ok-Some.field-0-is ∙ c.in-Ok-Some.ensures.value) asked)
+
+pub returns-in-Ok-Some-clause-made : goal.returns-in-Ok-Some-clause-made
+returns-in-Ok-Some-clause-made g c = λ tells zero q queued.
+    absurd (not_queued (texts_of c.args.words.now.items) c.in-Ok-Some.plan q (sym c.in-Ok-Some.field-0-is ∙ c.in-Ok-Some.ensures.value) queued)
+
+pub returns-in-Ok-Some-clause-printed_made : goal.returns-in-Ok-Some-clause-printed_made
+returns-in-Ok-Some-clause-printed_made g c = λ tells out_tells zero q queued.
+    absurd (not_queued (texts_of c.args.words.now.items) c.in-Ok-Some.plan q (sym c.in-Ok-Some.field-0-is ∙ c.in-Ok-Some.ensures.value) queued)
+
+pub returns-in-Ok-Some-clause-printed_made_part : goal.returns-in-Ok-Some-clause-printed_made_part
+returns-in-Ok-Some-clause-printed_made_part g c = λ tells out_tells nine q queued.
+    absurd (not_queued (texts_of c.args.words.now.items) c.in-Ok-Some.plan q (sym c.in-Ok-Some.field-0-is ∙ c.in-Ok-Some.ensures.value) queued)
 
 pub returns-in-Ok-Some-clause-drained : goal.returns-in-Ok-Some-clause-drained
 returns-in-Ok-Some-clause-drained g c = λ tells q in_use legal.
