@@ -1,10 +1,11 @@
-//! The plain program of the yardstick: it generates layers of 64-bit labels, and copies them task by task, as the product does, with
-//! the standard library alone. It refuses nothing, since its input is trusted.
+//! The plain program of the yardstick: it generates layers of 64-bit labels, and copies or halves them task by task, as the product does,
+//! with the standard library alone. It refuses nothing, since its input is trusted.
 //!
 //!     plain generate DEST SIZE CHUNK ENCODING
 //!     plain copy SRC DEST CHUNK SHAPE ENCODING
+//!     plain downsample SRC DEST SHAPE
 //!
-//! SIZE, CHUNK and SHAPE are X,Y,Z; ENCODING is `raw` or `compressed_segmentation`, in blocks of 8,8,8.
+//! The last writes the scale of half the size into a layer of its own. SIZE, CHUNK and SHAPE are X,Y,Z; ENCODING is `raw` or `compressed_segmentation`, in blocks of 8,8,8.
 
 use std::path::{Path, PathBuf};
 use std::{array, env, fs, process};
@@ -13,6 +14,7 @@ use std::{array, env, fs, process};
 type Point = [usize; 3];
 
 const KEY: &str = "8_8_8";
+const HALVED_KEY: &str = "16_16_8";
 const TEMPORARY: &str = ".plain-tmp";
 const BLOCK: Point = [8, 8, 8];
 /// About how many voxels a generated cell of one label has on each axis.
@@ -97,6 +99,7 @@ enum Encoding {
 /// A layer of one scale of 64-bit labels.
 struct Layer {
     folder: PathBuf,
+    key: &'static str,
     size: Point,
     chunk: Point,
     encoding: Encoding,
@@ -107,6 +110,7 @@ impl Layer {
         let info = fs::read_to_string(Path::new(folder).join("info")).unwrap();
         Layer {
             folder: PathBuf::from(folder),
+            key: KEY,
             size: numbers_after(&info, "\"size\":["),
             chunk: numbers_after(&info, "\"chunk_sizes\":[["),
             encoding: if info.contains("\"encoding\":\"raw\"") {
@@ -119,7 +123,7 @@ impl Layer {
 
     /// Makes the folders of the layer, and writes its info.
     fn create(&self) {
-        fs::create_dir_all(self.folder.join(KEY)).unwrap();
+        fs::create_dir_all(self.folder.join(self.key)).unwrap();
         fs::create_dir_all(TEMPORARY).unwrap();
         let (block, encoding) = match self.encoding {
             Encoding::Raw => (String::new(), "raw"),
@@ -133,7 +137,8 @@ impl Layer {
         };
         let (chunk, size) = (text_of(self.chunk), text_of(self.size));
         let scale = format!(
-            r#"{{"chunk_sizes":[[{chunk}]],{block}"encoding":"{encoding}","key":"{KEY}","resolution":[8,8,8],"size":[{size}],"voxel_offset":[0,0,0]}}"#
+            r#"{{"chunk_sizes":[[{chunk}]],{block}"encoding":"{encoding}","key":"{}","resolution":[8,8,8],"size":[{size}],"voxel_offset":[0,0,0]}}"#,
+            self.key
         );
         let info = format!(
             r#"{{"@type":"neuroglancer_multiscale_volume","data_type":"uint64","num_channels":1,"scales":[{scale}],"type":"segmentation"}}"#
@@ -142,7 +147,7 @@ impl Layer {
     }
 
     fn path(&self, chunk: Area) -> PathBuf {
-        self.folder.join(KEY).join(chunk.name())
+        self.folder.join(self.key).join(chunk.name())
     }
 
     /// The labels of a box.
@@ -438,6 +443,57 @@ fn copy(source: &Layer, dest: &Layer, shape: Point) {
     }
 }
 
+/// Half of a size in x and y, up.
+fn half(size: Point) -> Point {
+    [size[0].div_ceil(2), size[1].div_ceil(2), size[2]]
+}
+
+/// Of four labels, at (0, 0), (1, 0), (0, 1) and (1, 1), the one that is there twice, else the last.
+fn mode(a: u64, b: u64, c: u64, d: u64) -> u64 {
+    if a == b || a == c {
+        a
+    } else if b == c {
+        b
+    } else {
+        d
+    }
+}
+
+/// The modes of the two by two blocks of a box of this size, the last column and row repeated.
+fn halve(labels: &[u64], size: Point) -> Vec<u64> {
+    let [wide, tall, deep] = size;
+    let mut modes = Vec::with_capacity(half(size).iter().product());
+    for z in 0..deep {
+        for y in (0..tall).step_by(2) {
+            let upper = &labels[wide * (y + tall * z)..][..wide];
+            let lower = &labels[wide * ((y + 1).min(tall - 1) + tall * z)..][..wide];
+            for x in (0..wide).step_by(2) {
+                let next = (x + 1).min(wide - 1);
+                modes.push(mode(upper[x], upper[next], lower[x], lower[next]));
+            }
+        }
+    }
+    modes
+}
+
+fn downsample(source: &Layer, dest: &str, shape: Point) {
+    let dest = Layer {
+        folder: PathBuf::from(dest),
+        key: HALVED_KEY,
+        size: half(source.size),
+        chunk: source.chunk,
+        encoding: source.encoding,
+    };
+    dest.create();
+    for task in cells(whole(source.size), shape, source.size) {
+        let halved = Area {
+            lo: [task.lo[0] / 2, task.lo[1] / 2, task.lo[2]],
+            hi: half(task.hi),
+        };
+        dest.write(halved, &halve(&source.read(task), task.size()));
+    }
+}
+
 fn encoding_of(text: &str) -> Encoding {
     if text == "raw" {
         Encoding::Raw
@@ -450,6 +506,7 @@ fn encoding_of(text: &str) -> Encoding {
 fn planned(folder: &str, size: Point, chunk: &str, encoding: &str) -> Layer {
     Layer {
         folder: PathBuf::from(folder),
+        key: KEY,
         size,
         chunk: point_of(chunk),
         encoding: encoding_of(encoding),
@@ -467,6 +524,9 @@ fn main() {
             let source = Layer::open(source);
             let dest = planned(dest, source.size, chunk, encoding);
             copy(&source, &dest, point_of(shape));
+        }
+        ["downsample", source, dest, shape] => {
+            downsample(&Layer::open(source), dest, point_of(shape));
         }
         _ => {
             eprintln!("plain: the words are not a command");

@@ -3,8 +3,8 @@
 
 Usage: bench/yardstick.py [PROGRAM] [--runs N] [--queue-only] [--tasks N,N,..] [--queue-runs N]
 
-PROGRAM is crates/igneous/out/igneous without the word. The plain program, plain.rs, is compiled by `rustc`. Both copy, rechunk and
-recode one generated layer, N times each (7), in turns; both have to leave the same files, byte for byte. Then layers of tiny tasks are
+PROGRAM is crates/igneous/out/igneous without the word. The plain program, plain.rs, is compiled by `rustc`. Both copy, rechunk, recode
+and halve one generated layer, N times each (7), in turns; both have to leave the same files, byte for byte. Then layers of tiny tasks are
 copied at once and by way of a queue, which one worker works off, and then another one which four at once do. The best of the runs is
 printed. With --queue-only the first part is left out; --tasks names the numbers of tasks (100,1000,10000,100000), and --queue-runs how
 often each is run (3). All files lie in a temporary folder, which is removed.
@@ -50,6 +50,12 @@ WORKS = [
     Work("recode raw to compressed", RAW, CHUNK, "128,128,128", COMPRESSED),
     Work("recode compressed to raw", COMPRESSED, CHUNK, "128,128,128", RAW),
 ]
+
+
+# The encodings of the layers that are halved, and the shape of the tasks, which is that of the product where none is given.
+HALVED = [RAW, COMPRESSED]
+HALVED_SHAPE = "128,128,64"
+HALVED_KEY = "16_16_8"
 
 
 @dataclass
@@ -119,6 +125,27 @@ def measure_work(program, plain, work, runs):
     return best(product_costs), best(plain_costs)
 
 
+def lend_layer(source, folder):
+    """A layer with the source's chunks, and an info of its own, to which scales can be added."""
+    os.makedirs(folder)
+    shutil.copy(f"{source}/info", folder)
+    os.symlink(os.path.abspath(f"{source}/8_8_8"), f"{folder}/8_8_8")
+
+
+def measure_halving(program, plain, encoding, runs):
+    """The best costs of a mip by the product and by the plain program, which take turns."""
+    product_costs, plain_costs = [], []
+    for number in range(runs):
+        by_product, by_plain = (f"halved-{encoding}-{number}-{by}" for by in ("product", "plain"))
+        lend_layer(encoding, by_product)
+        product_costs.append(run([program, "image", "downsample", by_product]))
+        plain_costs.append(run([plain, "downsample", encoding, by_plain, HALVED_SHAPE]))
+        check_same(f"{by_product}/{HALVED_KEY}", f"{by_plain}/{HALVED_KEY}")
+        empty(f"{by_product}/{HALVED_KEY}")
+        empty(by_plain)
+    return best(product_costs), best(plain_costs)
+
+
 def print_table(titles, rows):
     """Prints rows of texts, the first column to the left and the others to the right."""
     widths = [max(len(row[place]) for row in [titles, *rows]) for place in range(len(titles))]
@@ -128,8 +155,8 @@ def print_table(titles, rows):
         print("| " + " | ".join(texts) + " |", flush=True)
 
 
-def work_row(work, product, plain):
-    texts = [work.name]
+def work_row(name, product, plain):
+    texts = [name]
     for mine, other in ((product.wall, plain.wall), (product.busy, plain.busy)):
         texts += [f"{mine:.3f}", f"{other:.3f}", f"{mine / other:.2f}"]
     return texts + [f"{product.memory:.0f}", f"{plain.memory:.0f}"]
@@ -141,7 +168,10 @@ def measure_works(program, plain, runs):
         run([plain, "generate", encoding, SIZE, CHUNK, encoding])
     for work in WORKS:
         product_cost, plain_cost = measure_work(program, plain, work, runs)
-        rows.append(work_row(work, product_cost, plain_cost))
+        rows.append(work_row(work.name, product_cost, plain_cost))
+    for encoding in HALVED:
+        product_cost, plain_cost = measure_halving(program, plain, encoding, runs)
+        rows.append(work_row(f"mip of {'raw' if encoding == RAW else 'compressed'}", product_cost, plain_cost))
     print(f"A layer of {SIZE} labels of 64 bits in chunks of {CHUNK}; best of {runs} runs each; the files are the same.\n")
     wall = ["product s", "plain s", "ratio"]
     busy = ["product u+s", "plain u+s", "ratio"]

@@ -1,11 +1,11 @@
 #!/usr/bin/env python3
-"""Eight worker processes over one queue of 512 tasks, killed or stalled at random moments, and started again till all tasks
-are done.
+"""Eight worker processes over one queue of 640 tasks of two stages, a copy and a mip, killed or stalled at random moments, and started
+again till all tasks are done.
 
 Usage: tests/killed_workers.py PROGRAM [KILLS [SEED ..]]
 
-For each seed, 1 and 2 where none is given, the new layer must then hold the same files as one that a single process copied. Leases are
-of one second, and a stalled worker goes on after more than that, so that its task is done again meanwhile. Prints how many workers were
+For each seed, 1 and 2 where none is given, the new layer and the new scale must then hold the same files as those that a single process
+made. Leases are of one second, and a stalled worker goes on after more than that, so that its task is done again meanwhile. Prints how many workers were
 killed and how many stalled, and how many tasks were late, or were told of more than once.
 
 Each worker has to end as its fate allows: one that was killed by that signal, or with a status that it had just ended with; any other
@@ -23,7 +23,8 @@ import tempfile
 import time
 
 WORKERS = 8
-SIDE = 8  # chunks on each axis: 512 tasks
+SIDE = 8  # chunks on each axis
+TASKS = SIDE**3 + SIDE**3 // 4  # of the copy one for each chunk, of the mip one for each chunk of the new scale
 CHUNK = 32  # voxels on each axis of a chunk
 CELL = 24  # voxels on each axis of a cell of one label
 STALLS = 16
@@ -162,18 +163,31 @@ def work(program, kills, rng, out):
         workers.stop()
 
 
-def copy_by_one(program):
-    options = ["--shape", f"{CHUNK},{CHUNK},{CHUNK}", "--encoding", "compressed_segmentation"]
-    print(run(program, "image", "xfer", "seg", "local", *options))
-    print(run(program, "image", "xfer", "seg", "copy", *options, "--queue", "fq://q"))
+def lend_layer(folder):
+    """A layer with the chunks of the first one, to which a scale can be added."""
+    os.makedirs(folder)
+    shutil.copy("seg/info", folder)
+    os.symlink("../seg/8_8_8", f"{folder}/8_8_8")
+
+
+def make_stages(program):
+    """Makes both works by one process, and puts the same into a queue."""
+    queue = ["--queue", "fq://q"]
+    copied = ["--shape", f"{CHUNK},{CHUNK},{CHUNK}", "--encoding", "compressed_segmentation"]
+    print(run(program, "image", "xfer", "seg", "local", *copied))
+    print(run(program, "image", "xfer", "seg", "copy", *copied, *queue))
+    for folder in ("halved-local", "halved"):
+        lend_layer(folder)
+    print(run(program, "image", "downsample", "halved-local"))
+    print(run(program, "image", "downsample", "halved", *queue))
 
 
 def run_seed(program, kills, seed):
-    """Makes a layer and a queue of its copy in this folder, and runs workers on it. Gives what became of them, how many tasks were late,
-    and whether the copy is whole."""
+    """Makes a layer and a queue of its copy and its mip in this folder, and runs workers on it. Gives what became of them, how many tasks
+    were late, and whether copy and mip are whole."""
     rng = random.Random(seed)
     write_layer("seg", rng)
-    copy_by_one(program)
+    make_stages(program)
     with open("lines", "wb") as out:
         workers = work(program, kills, rng, out)
     with open("lines") as file:
@@ -181,13 +195,14 @@ def run_seed(program, kills, seed):
     tasks = [tuple(line[1:3]) for line in said if line and line[0] in ("done", "late", "missing", "dead")]
     late = sum(1 for line in said if line and line[0] == "late")
     again = len(tasks) - len(set(tasks))
-    same, done = files_of("local") == files_of("copy"), len(os.listdir("q/done"))
+    same = files_of("local") == files_of("copy") and files_of("halved-local") == files_of("halved")
+    done = len(os.listdir("q/done"))
     print(
         f"seed {seed}: killed {workers.killed} stalled {len(workers.stalled)} late {late} told again {again} done names {done} equal {same}"
         f" wrong statuses {workers.wrong}",
         flush=True,
     )
-    return workers, late, same and done == SIDE**3
+    return workers, late, same and done == TASKS
 
 
 def main():
