@@ -19,8 +19,8 @@ use Rattle.ig_worker.specs.declared.phase.Phase.TheVariants.{Broken}
 use Rattle.ig_worker.specs.declared.plan.Plan.{Plan}
 use Rattle.ig_worker.specs.declared.turn.End.{End}
 use Rattle.ig_worker.specs.declared.turn.End.TheVariants.{Finished}
-use Rattle.ig_worker.specs.Alone.{IsOnItsWay, alone_finishes}
-use Rattle.ig_worker.specs.CanFinish.{CanFinish}
+use Rattle.ig_worker.specs.Finishing.Alone.{IsOnItsWay, alone_finishes}
+use Rattle.ig_worker.specs.Finishing.CanFinish.{CanFinish}
 use Rattle.ig_worker.specs.Places.{State, stands}
 use Rattle.ig_worker.specs.Plans.{HasLimits}
 use Rattle.ig_worker.specs.Words.{plan_of_words}

@@ -6,8 +6,8 @@ use Rattle.ig_defs.specs.Own.{moments_since}
 use Rattle.ig_task.specs.Pipeline.{is_allowed}
 use Rattle.ig_task.specs.declared.pipeline.Pipeline.{Pipeline}
 use Rattle.ig_worker.specs.declared.plan.Plan.{Plan}
-use Rattle.ig_worker.specs.Leases.{FollowLeases, OwnStep}
-use Rattle.ig_worker.specs.LeasesCourse.{course_leases}
+use Rattle.ig_worker.specs.Leasing.Leases.{FollowLeases, OwnStep}
+use Rattle.ig_worker.specs.Leasing.Course.{course_leases}
 use Rattle.ig_worker.specs.Plans.{HasLimits}
 use Rattle.ig_worker.specs.Words.{plan_of_words}
 use Rattle.ig_cli.specs.Worked.{HasWorked}

@@ -22,14 +22,14 @@ use Rattle.ig_worker.specs.declared.plan.Plan.{Plan}
 use Rattle.ig_worker.specs.declared.turn.End.{End}
 use Rattle.ig_worker.specs.declared.turn.End.TheVariants as end
 use Rattle.ig_worker.specs.Course.{end_at}
-use Rattle.ig_worker.specs.Ends.{finished, letters, waiting}
-use Rattle.ig_worker.specs.EndsLasts.{lasts_later}
-use Rattle.ig_worker.specs.EndsPlaces.{course_keeps}
-use Rattle.ig_worker.specs.EndsRecords.{never_broken}
+use Rattle.ig_worker.specs.Ending.Ends.{finished, letters, waiting}
+use Rattle.ig_worker.specs.Ending.Lasts.{lasts_later}
+use Rattle.ig_worker.specs.Ending.Places.{course_keeps}
+use Rattle.ig_worker.specs.Ending.Records.{never_broken}
 use Rattle.ig_worker.specs.Moves.{Move}
 use Rattle.ig_worker.specs.Places.{State}
 use Rattle.ig_worker.specs.Plans.{HasLimits}
-use Rattle.ig_worker.specs.Standing.{AllowsFor, Lasts}
+use Rattle.ig_worker.specs.Ending.Standing.{AllowsFor, Lasts}
 use Rattle.ig_cli.specs.Rules.{worker_rule}
 use Rattle.ig_cli.specs.Worked.{EndsSo, HasSaid, HasWorked, IsStatusAt, Worked, status_at, status_of_end}
 

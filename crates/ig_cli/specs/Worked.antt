@@ -22,12 +22,12 @@ use Rattle.ig_worker.specs.declared.plan.Plan.{Plan}
 use Rattle.ig_worker.specs.declared.turn.End.{End}
 use Rattle.ig_worker.specs.declared.turn.End.TheVariants.{Finished, Waiting, Letters, Spent}
 use Rattle.ig_worker.specs.declared.turn.Line.{Line}
-use Rattle.ig_worker.specs.AtEnd.{Ended as HasEnded, Finishes, Tells, Waits}
+use Rattle.ig_worker.specs.Ending.AtEnd.{Ended as HasEnded, Finishes, Tells, Waits}
 use Rattle.ig_worker.specs.Course.{Course, end_at, fresh, said_of}
 use Rattle.ig_worker.specs.Lines.{end_text, lines_text}
 use Rattle.ig_worker.specs.Moves.{Move}
 use Rattle.ig_worker.specs.Places.{State}
-use Rattle.ig_worker.specs.Standing.{AllowsFor}
+use Rattle.ig_worker.specs.Ending.Standing.{AllowsFor}
 use Rattle.ig_cli.specs.Report.{Ends, ending_of_worker, own_line}
 
 -- ---- statuses

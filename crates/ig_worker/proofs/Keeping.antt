@@ -10,7 +10,7 @@ use Rattle.ig_task.specs.declared.pipeline.Pipeline.{Pipeline}
 use Rattle.ig_worker.specs.declared.error.WorkerError.{WorkerError}
 use Rattle.ig_worker.specs.declared.turn.Turn.{Turn}
 use Rattle.ig_worker.specs.Fit.{IsFit}
-use Rattle.ig_worker.specs.KeepsSteps.{StepKeeps, step_keeps}
+use Rattle.ig_worker.specs.Keeping.Steps.{StepKeeps, step_keeps}
 use Rattle.ig_worker.specs.Knows.{Knows}
 use Rattle.ig_worker.specs.Places.{State}
 use Rattle.ig_worker.specs.Steps.{Stepped}

@@ -11,7 +11,7 @@ use Rattle.ig_worker.specs.declared.phase.Phase.{Phase}
 use Rattle.ig_worker.specs.declared.turn.Turn.TheVariants.{On}
 use Rattle.ig_worker.specs.Acting.{BuriesSpent, TakesLease}
 use Rattle.ig_worker.specs.Fit.{AreOpen, IsFitPhase, IsOpen}
-use Rattle.ig_worker.specs.KeepsNames.{leased_fits}
+use Rattle.ig_worker.specs.Keeping.Names.{leased_fits}
 use Rattle.ig_worker.specs.Moves.{Move, TriesBy, TriesName, leased}
 use Rattle.ig_worker.specs.Places.{asked, begun, begun_by, leased_or_gone, next_try, tried_one}
 use Rattle.ig_worker.specs.Plans.{HasLimits}

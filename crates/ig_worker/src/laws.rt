@@ -7,13 +7,13 @@ ghost use Rattle.ig_rule.specs.declared.role.Role.{Role};
 ghost use Rattle.ig_rule.specs.Sound.{Legal};
 ghost use Rattle.ig_task.specs.Facts.{stage_reader};
 ghost use Rattle.ig_worker.specs.declared.plan.Plan.{Plan};
-ghost use Rattle.ig_worker.specs.CanFinish.{AreOwn, CanFinish, IsOnItsWay};
+ghost use Rattle.ig_worker.specs.Finishing.CanFinish.{AreOwn, CanFinish, IsOnItsWay};
 ghost use Rattle.ig_worker.specs.Course.{Course, fresh};
-ghost use Rattle.ig_worker.specs.Leases.{FollowLeases};
+ghost use Rattle.ig_worker.specs.Leasing.Leases.{FollowLeases};
 ghost use Rattle.ig_worker.specs.Moves.{Move};
 ghost use Rattle.ig_worker.specs.Places.{State};
 ghost use Rattle.ig_worker.specs.Plans.{HasLimits};
-ghost use Rattle.ig_worker.specs.Standing.{AllowsFor};
+ghost use Rattle.ig_worker.specs.Ending.Standing.{AllowsFor};
 
 /// A worker from its start on, beside which nobody takes a step, ends as `Finished` where nothing keeps it from finishing all
 /// tasks of its queue: each of its ends is that one, and it meets no record that isn't there or is none. So it stops before only

@@ -1,4 +1,4 @@
-use Rattle.ig_worker.specs.Alone.{alone_finishes}
+use Rattle.ig_worker.specs.Finishing.Alone.{alone_finishes}
 use Rattle.ig_worker.proofs.laws.worker_alone_finishes.Goals as goal
 
 pub returns : goal.returns

@@ -1,5 +1,5 @@
-use Rattle.ig_worker.specs.LeasesCourse.{course_leases}
-use Rattle.ig_worker.specs.Standing.{AllowsFor}
+use Rattle.ig_worker.specs.Leasing.Course.{course_leases}
+use Rattle.ig_worker.specs.Ending.Standing.{AllowsFor}
 use Rattle.ig_worker.proofs.laws.writes_follow_leases.Goals as goal
 
 pub returns : goal.returns

@@ -1,0 +1,15 @@
+pub mod Alone
+pub mod CanFinish
+pub mod Calls
+pub mod Done
+pub mod Files
+pub mod Going
+pub mod Jobs
+pub mod Kept
+pub mod Left
+pub mod Listings
+pub mod Order
+pub mod Rounds
+pub mod Runs
+pub mod Tasks
+pub mod Tries

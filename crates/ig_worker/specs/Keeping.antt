@@ -1,0 +1,12 @@
+pub mod Keeps
+pub mod Files
+pub mod Handing
+pub mod Known
+pub mod Leases
+pub mod Listing
+pub mod Lists
+pub mod Moves
+pub mod Names
+pub mod Records
+pub mod Steps
+pub mod Tasks
